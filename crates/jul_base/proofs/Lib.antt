@@ -1,0 +1,5 @@
+pub mod NumberLaws
+pub mod GraphLaws
+pub mod WalkLaws
+pub mod DistanceLaws
+pub mod Rows

@@ -1,0 +1,4 @@
+pub mod Numbers
+pub mod Graph
+pub mod Walks
+pub mod Distances

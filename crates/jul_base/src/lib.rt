@@ -1,0 +1,16 @@
+//! What every other crate stands on: columns of numbers, graphs as a file lists them, files and sinks of
+//! bytes that may fail, the gate before each chunk of work, and the limits of a run.
+//!
+//! A graph is in the form of the Problem Based Benchmark Suite (PBBS): an offset for each vertex and the
+//! targets of all edges in one list. Start with `RawGraph`; `load_all` and `write_whole` move bytes.
+#![tactic(auto)]
+
+mod columns;
+mod gates;
+mod graphs;
+mod limits;
+
+pub use columns::{Column, Ids};
+pub use gates::{Gate, OpenGate};
+pub use graphs::RawGraph;
+pub use limits::{MAX_BYTES, MAX_M, MAX_N, MAX_W, NONE};
