@@ -1,5 +1,6 @@
 pub mod NumberLaws
 pub mod GraphLaws
+pub mod SinkLaws
 pub mod WalkLaws
 pub mod DistanceLaws
 pub mod Rows

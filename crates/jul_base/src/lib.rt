@@ -9,8 +9,14 @@ mod columns;
 mod gates;
 mod graphs;
 mod limits;
+mod sinks;
+mod text_blocks;
+mod writing;
 
 pub use columns::{Column, Ids};
 pub use gates::{Gate, OpenGate};
 pub use graphs::RawGraph;
 pub use limits::{MAX_BYTES, MAX_M, MAX_N, MAX_W, NONE};
+pub use sinks::{Failed, Sink};
+pub use text_blocks::TextBlock;
+pub use writing::{write_u64, write_whole};

@@ -1,0 +1,18 @@
+use Rattle.std.proofs.Common.{◌≡◌, ◌++◌, List, ℕ, [], ap, sym, subst, ◌∙◌}
+use Rattle.std.proofs.lemmas.Result.{on_ok_weaker, on_err_weaker}
+use Rattle.jul_base.specs.Sinks.{Appended, FailedWriting, IsSent}
+use Rattle.jul_base.proofs.SinkLaws.{Appended-then, IsSent-whole, FailedWriting-after}
+use Rattle.jul_base.proofs.text_blocks.TextBlock.put.Goals as goal
+
+pub returns-clause-ok : goal.returns-clause-ok
+returns-clause-ok g c =
+    let whole : c.try_extend_from_slice.new.self.items ≡ c.args.self.now = ap (λ v. v.items) c.in_default.ensures.err ∙ c.self.view_is in
+    let first : Appended (g.S.Sink.state c.args.sink.now) (g.S.Sink.state c.flush.new.sink) c.args.self.now = rw whole at c.in_ok-flush.ensures.ok in
+    let kept : c.try_extend_from_slice-2.new.self.items ≡ [] = ap (λ v. v.items) c.in_default-try_extend_from_slice.ensures.err ∙ c.self-2.view_is ∙ c.in_ok-flush.ensures.empty in
+    on_ok_weaker c.write_whole.result (λ second. IsSent-whole _ _ _ _ kept (Appended-then _ _ _ _ _ first second)) c.write_whole.ensures.ok
+
+pub returns-clause-err : goal.returns-clause-err
+returns-clause-err g c =
+    let whole : c.try_extend_from_slice.new.self.items ≡ c.args.self.now = ap (λ v. v.items) c.in_default.ensures.err ∙ c.self.view_is in
+    let first : Appended (g.S.Sink.state c.args.sink.now) (g.S.Sink.state c.flush.new.sink) c.args.self.now = rw whole at c.in_ok-flush.ensures.ok in
+    on_err_weaker c.write_whole.result (λ failed. FailedWriting-after _ _ _ _ _ c.flush.ensures.faults first failed) c.write_whole.ensures.err
