@@ -1,6 +1,7 @@
 pub mod NumberLaws
 pub mod GraphLaws
 pub mod SinkLaws
+pub mod LoadingLaws
 pub mod WalkLaws
 pub mod DistanceLaws
 pub mod Rows

@@ -3,3 +3,5 @@ pub mod Graph
 pub mod Walks
 pub mod Distances
 pub mod Sinks
+pub mod Shelves
+pub mod Loading
