@@ -5,3 +5,6 @@ pub mod Distances
 pub mod Sinks
 pub mod Shelves
 pub mod Loading
+pub mod Memory
+pub mod MemorySinks
+pub mod MemoryShelves

@@ -12,8 +12,13 @@ loop-block-preserved g c =
     record {
       loading = IsLoading-more _ _ _ _ _ _ _ c.read.new.buf _ c.in_ok-count.count c.loop-block.invariant.loading c.in_ok-count.ensures.moves c.in_ok-count.ensures.ok size c.in_ok-extend_from_slice.ensures.items;
       is_open = c.in_ok-count.ensures.is_open;
-      within = omega (arith, c.in_ok-extend_from_slice.ensures.len, length-take-le c.in_ok-count.count (c.read.new.buf ++ drop c.min-room.result c.loop-block.block) more,
-      c.in_ok-count.ensures.within, length-take c.min-room.result c.loop-block.block);
+      within = omega (
+        arith,
+        c.in_ok-extend_from_slice.ensures.len,
+        length-take-le c.in_ok-count.count (c.read.new.buf ++ drop c.min-room.result c.loop-block.block) more,
+        c.in_ok-count.ensures.within,
+        length-take c.min-room.result c.loop-block.block,
+      );
       most = refl;
       block = omega (arith, c.loop-block.invariant.block, length-append c.read.new.buf (drop c.min-room.result c.loop-block.block), length-drop c.min-room.result c.loop-block.block, length-take c.min-room.result c.loop-block.block, c.read.auto.buf);
       faults = omega (arith, c.read.ensures.faults, c.loop-block.invariant.faults);
