@@ -1,0 +1,4 @@
+pub mod TokenLaws
+pub mod NumeralLaws
+pub mod LineLaws
+pub mod Rows
