@@ -1,0 +1,8 @@
+//! The rows of a graph: the targets of each vertex, with their places and weights.
+//!
+//! The form is that of Ligra (Shun, Blelloch, PPoPP 2013), compressed sparse rows. Start with `Rows`.
+#![tactic(auto)]
+
+mod out_rows;
+
+pub use out_rows::Rows;
