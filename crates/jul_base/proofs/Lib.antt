@@ -3,3 +3,4 @@ pub mod GraphLaws
 pub mod WalkLaws
 pub mod DistanceLaws
 pub mod Rows
+pub mod LogLaws

@@ -2,3 +2,4 @@ pub mod Numbers
 pub mod Graph
 pub mod Walks
 pub mod Distances
+pub mod Logs

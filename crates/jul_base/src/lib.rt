@@ -9,8 +9,10 @@ mod columns;
 mod gates;
 mod graphs;
 mod limits;
+mod shares;
 
 pub use columns::{Column, Ids};
 pub use gates::{Gate, OpenGate};
 pub use graphs::RawGraph;
 pub use limits::{MAX_BYTES, MAX_M, MAX_N, MAX_W, NONE};
+pub use shares::{Free, Share};
