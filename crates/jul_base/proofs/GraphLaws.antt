@@ -1,10 +1,9 @@
 -- A lawful graph: its rows lie among its places, its targets among its vertices, and no weight is too great.
-use Rattle.std.proofs.Common.{◌≡◌, ℕ, ◌+◌, ◌<◌, ◌≤◌, ltb, true, false, get_or, cond, length, arith, inl, inr}
+use Rattle.std.proofs.Common.{◌≡◌, ℕ, ◌+◌, ◌<◌, ◌≤◌, ltb, arith, inl, inr}
 use Rattle.std.proofs.lemmas.Bool.{cases_lt, lt-ltb, le-ltb, cond-true, cond-false}
 use Rattle.std.proofs.lemmas.List.Elements.{All-get_or}
 use Rattle.jul_base.specs.declared.graphs.RawGraph.{RawGraph}
-use Rattle.jul_base.specs.declared.limits.TheConstants.{MAX_W}
-use Rattle.jul_base.specs.Graph.{vertices, places, row_start, row_end, target, weight, IsPlaceOf, IsLawful}
+use Rattle.jul_base.specs.Graph.{vertices, places, row_start, row_end, target, IsPlaceOf, IsLawful}
 
 -- where a row ends: at the next row's start, and the last one at the last place
 pub row_end-next : (g : RawGraph) (v : ℕ) → v + 1 < vertices g → row_end g v ≡ row_start g (v + 1)

@@ -6,3 +6,4 @@ pub mod MemoryLaws
 pub mod WalkLaws
 pub mod DistanceLaws
 pub mod Rows
+pub mod LogLaws

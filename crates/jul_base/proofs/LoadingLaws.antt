@@ -1,10 +1,9 @@
 -- A file that is loaded block by block.
-use Rattle.std.proofs.Common.{◌≡◌, ◌⊎◌, ℕ, ◌+◌, ◌-◌, ◌<◌, ◌≤◌, Bool, true, List, [], ◌∷◌, ◌++◌, length, take, drop, Option, Some, None, refl, sym, ◌∙◌, subst, ap, arith, inl, inr, IfSome, min}
-use Rattle.std.specs.Option.{option_map, unwrap_or}
+use Rattle.std.proofs.Common.{◌≡◌, ℕ, ◌+◌, ◌<◌, ◌≤◌, List, [], ◌++◌, length, take, drop, Option, Some, None, refl, sym, ◌∙◌, subst, ap, arith, IfSome}
+use Rattle.std.specs.Option.{option_map}
 use Rattle.std.proofs.lemmas.List.{take_all, drop_all, length-take-le, length-drop, length-append, drop-drop, take-append-le}
 use Rattle.std.proofs.Math.Seq.{take-add}
-use Rattle.jul_base.specs.Sinks.{Rose}
-use Rattle.jul_base.specs.Shelves.{ShelfState, Told, Moves, contents, after_open, after_read, files_and_last}
+use Rattle.jul_base.specs.Shelves.{ShelfState, Told, Moves, contents, after_open, after_read}
 use Rattle.jul_base.specs.Loading.{bytes_of, IsLoaded}
 
 -- what the loop keeps: as many of the file's bytes were read as stand in the list

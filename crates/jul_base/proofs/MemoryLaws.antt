@@ -7,7 +7,7 @@ use Rattle.std.proofs.lemmas.Bool.{cond-true}
 use Rattle.std.proofs.lemmas.List.{drop_more}
 use Rattle.std.proofs.lemmas.Option.{slice_get_read}
 use Rattle.jul_base.specs.Shelves.{contents}
-use Rattle.jul_base.specs.Memory.{Stored, file_of, files_of, bytes_at, name_at}
+use Rattle.jul_base.specs.Memory.{Stored, files_of, bytes_at, name_at}
 
 -- the file at a place, where none before it has the name
 pub contents-found : (files : List Stored) (i : ℕ) (x : Stored) (name : List ℕ) → i < length files → x ≡ get_or files i x → bytes_eq (string_bytes x.0) name ≡ true →

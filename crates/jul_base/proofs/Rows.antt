@@ -1,7 +1,7 @@
 -- The definitions on small graphs, computed.
 use Rattle.std.specs.Prelude.{◌≡◌, true, false, [], ◌∷◌, refl}
 use Rattle.jul_base.specs.declared.graphs.RawGraph.{RawGraph}
-use Rattle.jul_base.specs.Graph.{row, row_end, weight, count}
+use Rattle.jul_base.specs.Graph.{row, row_end, count}
 use Rattle.jul_base.specs.Walks.{walk_sum}
 
 -- two ways from 0 to 1: the edge of weight 5, and by way of 2

@@ -8,3 +8,4 @@ pub mod Loading
 pub mod Memory
 pub mod MemorySinks
 pub mod MemoryShelves
+pub mod Logs

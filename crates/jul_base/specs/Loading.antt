@@ -1,8 +1,8 @@
 -- What the loading of a file leaves of the shelf.
-use Rattle.std.specs.Prelude.{◌≡◌, ◌⊎◌, ℕ, List, [], take, Option, Some, IfSome}
+use Rattle.std.specs.Prelude.{◌≡◌, ◌⊎◌, ℕ, List, [], take, Some, IfSome}
 use Rattle.std.specs.Option.{option_map, unwrap_or}
 use Rattle.jul_base.specs.Sinks.{Rose}
-use Rattle.jul_base.specs.Shelves.{ShelfState, Told, IsMissing, contents, after_open, after_failed_open, after_read, files_and_last}
+use Rattle.jul_base.specs.Shelves.{ShelfState, Told, IsMissing, contents, after_open, after_read, files_and_last}
 
 -- the bytes of a name, and none where no file has it
 abbrev pub bytes_of : Told → List ℕ → List ℕ

@@ -1,5 +1,5 @@
 -- Files and sinks in memory.
-use Rattle.std.specs.Prelude.{ℕ, ◌+◌, List, [], map, min, Bool, length, slice_get, drop, Option, Some, None, Vec, String, string_bytes, ◌==◌}
+use Rattle.std.specs.Prelude.{ℕ, ◌+◌, List, [], map, min, Bool, slice_get, Option, Vec, String, string_bytes, ◌==◌}
 use Rattle.std.specs.Global.{Global}
 use Rattle.std.specs.Option.{option_map, unwrap_or}
 use Rattle.std.specs.List.{list_any}

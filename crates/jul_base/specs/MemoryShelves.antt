@@ -1,5 +1,5 @@
 -- What a shelf in memory tells.
-use Rattle.std.specs.Prelude.{List, [], ℕ, drop, Option, Some, None, Bool, is_some}
+use Rattle.std.specs.Prelude.{List, [], ℕ, drop, Option, Some, None, is_some}
 use Rattle.jul_base.specs.declared.memory_shelves.MemShelf.{MemShelf}
 use Rattle.jul_base.specs.declared.memory_shelves.OpenFile.{OpenFile}
 use Rattle.jul_base.specs.Shelves.{ShelfState}

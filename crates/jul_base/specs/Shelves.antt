@@ -1,5 +1,5 @@
 -- What contracts see of a shelf of files, and what its calls change.
-use Rattle.std.specs.Prelude.{◌≡◌, ℕ, ◌<◌, ◌≤◌, ◌++◌, List, [], ◌∷◌, length, take, drop, Option, Some, None, Bool, IfSome, if◌then◌else◌}
+use Rattle.std.specs.Prelude.{◌≡◌, ℕ, ◌<◌, ◌≤◌, ◌++◌, List, [], ◌∷◌, length, take, drop, Option, Some, None, Bool, if◌then◌else◌}
 use Rattle.std.specs.Option.{option_map, unwrap_or, IsSomeAnd}
 use Rattle.std.specs.Str.{bytes_eq}
 

@@ -1,7 +1,6 @@
-use Rattle.std.proofs.Common.{◌≡◌, ◌+◌, ◌≤◌, ◌<◌, arith, ℕ, ◌++◌, drop, List, take, sym, subst, length, refl}
+use Rattle.std.proofs.Common.{◌≤◌, arith, ◌++◌, drop, length, refl}
 use Rattle.std.proofs.lemmas.List.{length-take, length-take-le, length-append, length-drop}
-use Rattle.jul_base.specs.Loading.{IsLoaded}
-use Rattle.jul_base.proofs.LoadingLaws.{IsLoading, IsLoading-more, IsLoaded-full, IsLoaded-end}
+use Rattle.jul_base.proofs.LoadingLaws.{IsLoading-more, IsLoaded-full, IsLoaded-end}
 use Rattle.jul_base.proofs.loading.load_all.Goals as goal
 use Rattle.jul_base.proofs.loading.load_all.Goals.{else-loop-block-test, then-loop-block-test+in_ok-count+then-count-eq0}
 

@@ -1,6 +1,5 @@
 use Rattle.std.proofs.Common.{◌≡◌, Some, true, ap, sym, ◌∙◌, arith}
 use Rattle.std.specs.Str.{bytes_eq}
-use Rattle.std.specs.String.{string_bytes}
 use Rattle.std.proofs.lemmas.Slice.Eq.{bytes_eq-Decides}
 use Rattle.jul_base.proofs.MemoryLaws.{contents-found, name_at-found}
 use Rattle.jul_base.proofs.memory_shelves.find_file.Goals as goal

@@ -1,6 +1,6 @@
-use Rattle.std.proofs.Common.{◌≡◌, ◌++◌, List, ℕ, [], ap, sym, subst, ◌∙◌}
+use Rattle.std.proofs.Common.{◌≡◌, [], ap, ◌∙◌}
 use Rattle.std.proofs.lemmas.Result.{on_ok_weaker, on_err_weaker}
-use Rattle.jul_base.specs.Sinks.{Appended, FailedWriting, IsSent}
+use Rattle.jul_base.specs.Sinks.{Appended}
 use Rattle.jul_base.proofs.SinkLaws.{Appended-then, IsSent-whole, FailedWriting-after}
 use Rattle.jul_base.proofs.text_blocks.TextBlock.put.Goals as goal
 
