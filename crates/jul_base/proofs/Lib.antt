@@ -5,5 +5,6 @@ pub mod LoadingLaws
 pub mod MemoryLaws
 pub mod WalkLaws
 pub mod DistanceLaws
+pub mod TentativeLaws
 pub mod Rows
 pub mod LogLaws
