@@ -1,0 +1,5 @@
+pub mod Roles
+pub mod Faults
+pub mod Reading
+pub mod Rules
+pub mod Scanning
