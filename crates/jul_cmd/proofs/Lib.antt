@@ -1,1 +1,4 @@
 pub mod RelaxationLaws
+pub mod BareTextLaws
+pub mod QueryLaws
+pub mod FileLaws

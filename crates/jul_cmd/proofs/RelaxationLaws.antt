@@ -1,19 +1,19 @@
 -- What a relaxation keeps and changes.
-use Rattle.std.proofs.Common.{◌≡◌, ◌≢◌, ◌⊎◌, ℕ, zero, suc, ◌+◌, ◌-◌, ◌*◌, ◌^◌, ◌<◌, ◌≤◌, Bool, true, false, List, [], ◌∷◌, ◌++◌, length, get_or, set, replicate, sum, sym, ◌∙◌, subst, refl, ap, arith, inl, inr}
+use Rattle.std.proofs.Common.{◌≡◌, ◌≢◌, ◌⊎◌, ℕ, zero, suc, ◌+◌, ◌-◌, ◌^◌, ◌<◌, ◌≤◌, Bool, true, false, List, [], ◌∷◌, ◌++◌, length, get_or, set, replicate, sum, sym, ◌∙◌, subst, refl, ap, arith, inl, inr}
 use Rattle.std.specs.List.{All, Contains}
 use Rattle.std.proofs.lemmas.Bool.{cases_eq, cases_lt, cases_Bool}
 use Rattle.std.proofs.lemmas.List.{length-set, length-replicate, get_or-replicate, get_or_past, get_or-set_same, get_or-set_other}
 use Rattle.std.proofs.lemmas.List.Sums.{sum_by-set}
 use Rattle.std.proofs.lemmas.List.Elements.{All-weaker, All-push, All-nil, All-cons, All-head, All-tail, Contains-push, Contains-append_left}
 use Rattle.jul_base.specs.declared.graphs.RawGraph.{RawGraph}
-use Rattle.jul_base.specs.declared.limits.TheConstants.{NONE, MAX_W}
+use Rattle.jul_base.specs.declared.limits.TheConstants.{NONE}
 use Rattle.jul_base.specs.Graph.{vertices, row_start, row_end, target, weight, IsPlaceOf, IsLawful}
-use Rattle.jul_base.specs.Distances.{IsClosedAt, IsClosed, AreDistances}
-use Rattle.jul_base.specs.Tentative.{IsBounded, IsSearch, first_column}
+use Rattle.jul_base.specs.Distances.{IsClosedAt, AreDistances}
+use Rattle.jul_base.specs.Tentative.{first_column}
 use Rattle.jul_base.proofs.GraphLaws.{place_in_range, target_in_range, weight-le}
 use Rattle.jul_base.proofs.DistanceLaws.{closed_are_distances}
 use Rattle.jul_base.proofs.TentativeLaws.{Lowers, lowered, lower_bounded, lower_search, first_bounded, first_search, small}
-use Rattle.jul_cmd.specs.Relaxation.{State, dist_of, flag_of, remaining, IsSearching, IsSettled, AllSettled, Waits, GoesOn}
+use Rattle.jul_cmd.specs.Relaxation.{State, dist_of, flag_of, IsSearching, IsSettled, AllSettled, Waits, GoesOn}
 
 -- states of the same parts
 pub same_state : (s t : State) → t.graph ≡ s.graph → t.source ≡ s.source → t.dist ≡ s.dist → t.waiting ≡ s.waiting → t.flags ≡ s.flags → t ≡ s
@@ -109,8 +109,8 @@ module _ (s : State) (h : IsSearching s) (u p : ℕ) (at : IsPlaceOf s.graph u p
         flags = w.flags;
         less = omega (arith, ap sum w.dist, sum_by-set (λ (k : ℕ). k) s.dist v x 0 in_list, lower, w.length);
       } where
-    true_is_not_false : true ≡ false → ⊥
-    true_is_not_false e = cc
+        true_is_not_false : true ≡ false → ⊥
+        true_is_not_false e = cc
 
 pub lower_kept : (s t : State) (u p v x : ℕ) → IsSearching s → IsPlaceOf s.graph u p → dist_of s u ≢ NONE → v ≡ target s.graph p → x ≡ dist_of s u + weight s.graph p → x < dist_of s v →
     t.graph ≡ s.graph → t.source ≡ s.source → t.dist ≡ set s.dist v x → t.waiting ≡ s.waiting → t.flags ≡ s.flags → IsSearching t
@@ -219,13 +219,14 @@ popped_flags : (fs : List Bool) (u x : ℕ) → u < length fs → get_or (set fs
 popped_flags fs u x lt is =
     let apart : x ≢ u = λ e. false_is_not_true (sym (get_or-set_same fs u false false lt) ∙ ap (λ k. get_or (set fs u false) k false) (sym e) ∙ is) in
     (apart, sym (get_or-set_other fs u x false false apart) ∙ is) where
-  false_is_not_true : false ≡ true → ⊥
-  false_is_not_true e = cc
+      false_is_not_true : false ≡ true → ⊥
+      false_is_not_true e = cc
 
 pub popped_vertex : (s t : State) (u : ℕ) → IsSearching s → Pops s t u → (u < vertices s.graph) × (dist_of s u ≢ NONE)
-popped_vertex s t u h p =
-    (All-head (λ x. x < vertices s.graph) u t.waiting (subst (All (λ x. x < vertices s.graph)) p.waiting h.waiting),
-    All-head (λ x. dist_of s x ≢ NONE) u t.waiting (subst (All (λ x. dist_of s x ≢ NONE)) p.waiting h.reached))
+popped_vertex s t u h p = (
+  All-head (λ x. x < vertices s.graph) u t.waiting (subst (All (λ x. x < vertices s.graph)) p.waiting h.waiting),
+  All-head (λ x. dist_of s x ≢ NONE) u t.waiting (subst (All (λ x. dist_of s x ≢ NONE)) p.waiting h.reached),
+)
 
 first_or_rest : (u : ℕ) (ws : List ℕ) (x : ℕ) → Contains (u ∷ ws) x → (u ≡ x) ⊎ Contains ws x
 first_or_rest u ws x (zero, lt, is) = inl is
@@ -284,13 +285,13 @@ row_settled s u start count start_is end_is closed = record {
 pub all_closed : (s : State) → IsSearching s → AllSettled s → s.waiting ≡ [] → AreDistances s.graph s.source s.dist
 all_closed s h all none =
     closed_are_distances s.graph s.source s.dist h.bounded.size h.search.start (λ u p at. (all u (not_waiting u)).closed p at) h.search.sums where
-  not_waiting : (u : ℕ) → flag_of s u ≡ false
-  not_waiting u = elim (cases_Bool (flag_of s u)) [
-    | inl is ↦ absurd (none_is_there u (subst (λ xs. Contains xs u) none (h.flagged u is)))
-    | inr is ↦ is
-  ] where
-    none_is_there : (u : ℕ) → Contains [] u → ⊥
-    none_is_there u (k, lt, is) = absurd (omega (arith, lt))
+      not_waiting : (u : ℕ) → flag_of s u ≡ false
+      not_waiting u = elim (cases_Bool (flag_of s u)) [
+        | inl is ↦ absurd (none_is_there u (subst (λ xs. Contains xs u) none (h.flagged u is)))
+        | inr is ↦ is
+      ] where
+        none_is_there : (u : ℕ) → Contains [] u → ⊥
+        none_is_there u (k, lt, is) = absurd (omega (arith, lt))
 
 pub found_distances : (s : State) (g : RawGraph) (source : ℕ) (column : List ℕ) → IsSearching s → AllSettled s → s.waiting ≡ [] → s.graph ≡ g → s.source ≡ source → column ≡ s.dist →
     AreDistances g source column

@@ -1,4 +1,4 @@
-use Rattle.std.proofs.Common.{◌∙◌, sym}
+use Rattle.std.proofs.Common.{◌∙◌}
 use Rattle.jul_cmd.specs.Relaxation.{state_of}
 use Rattle.jul_cmd.proofs.RelaxationLaws.{found_distances}
 use Rattle.jul_cmd.proofs.relaxation.least_distances.Goals as goal

@@ -1,9 +1,8 @@
-use Rattle.std.proofs.Common.{◌≡◌, ◌+◌, ◌<◌, ℕ, List, length, refl, ap, sym, ◌∙◌, arith, get_or}
+use Rattle.std.proofs.Common.{◌≡◌, ◌<◌, ℕ, List, length, refl, ◌∙◌, arith, get_or}
 use Rattle.std.proofs.lemmas.Result.{on_ok_weaker}
-use Rattle.std.proofs.lemmas.Grind.{common_steps, get_or_default_zero}
-use Rattle.jul_base.specs.Graph.{weight}
+use Rattle.std.proofs.lemmas.Grind.{get_or_default_zero}
 use Rattle.jul_base.proofs.GraphLaws.{place_in_range, target_in_range}
-use Rattle.jul_cmd.specs.Relaxation.{state_of, dist_of}
+use Rattle.jul_cmd.specs.Relaxation.{state_of}
 use Rattle.jul_cmd.proofs.RelaxationLaws.{lower_kept, lower_then_wait}
 use Rattle.jul_cmd.proofs.relaxation.Search.relax.Goals as goal
 

@@ -1,4 +1,4 @@
-use Rattle.std.proofs.Common.{◌≡◌, ◌≢◌, ℕ, ◌+◌, ◌<◌}
+use Rattle.std.proofs.Common.{◌≡◌, ℕ, ◌+◌, ◌<◌}
 use Rattle.jul_base.specs.Distances.{IsClosedAt}
 use Rattle.jul_base.specs.Graph.{row_start}
 use Rattle.jul_cmd.specs.Relaxation.{state_of, dist_of, IsSearching, GoesOn}

@@ -1,6 +1,6 @@
 use Rattle.std.proofs.Common.{refl, set, false}
 use Rattle.jul_cmd.specs.Relaxation.{state_of}
-use Rattle.jul_cmd.proofs.RelaxationLaws.{Pops, pop_kept, step_settled}
+use Rattle.jul_cmd.proofs.RelaxationLaws.{pop_kept, step_settled}
 use Rattle.jul_cmd.proofs.relaxation.Search.step.Goals as goal
 
 pub relax_row-requires-clause-kept : goal.relax_row-requires-clause-kept

@@ -1,0 +1,59 @@
+//! How a run ends.
+ghost use Rattle.std.specs.Prelude.{◌≡◌};
+
+use jul_adj::Fault;
+
+/// A file that the words name.
+#[derive(Clone, Copy, Debug, PartialEq, Eq)]
+pub enum Which {
+    /// The graph file.
+    Graph,
+    /// The witness file.
+    Witness,
+}
+
+/// How a run ends. A later refusal comes only where no earlier one has its cause.
+#[derive(Clone, Copy, Debug, PartialEq, Eq)]
+pub enum Status {
+    /// The whole answer was written.
+    Done,
+    /// The words are not of a form that is taken.
+    Usage,
+    /// The graph file has a fault, and this is its first one.
+    GraphFault(Fault),
+    /// The source is not below the number of vertices.
+    SourceRange {
+        /// The source that the words name.
+        source: u32,
+        /// The number of vertices of the graph.
+        n: u32,
+    },
+    /// A file could not be read to its end, or is missing.
+    ReadFault {
+        /// Which one.
+        file: Which,
+    },
+    /// The answer could not be written whole.
+    WriteFault,
+    /// Memory ran out. Nothing was written.
+    Memory,
+}
+
+impl Status {
+    ghost use Rattle.jul_cmd.specs.Statuses.{code_of};
+
+    /// The exit code of the program. Takes no memory.
+    pub fn code(&self) -> u8
+        ensures { result ≡ code_of self.now }
+    {
+        match self {
+            Status::Done => 0,
+            Status::Usage => 2,
+            Status::GraphFault(_) => 3,
+            Status::SourceRange { .. } => 4,
+            Status::ReadFault { .. } => 5,
+            Status::WriteFault => 6,
+            Status::Memory => 7,
+        }
+    }
+}
