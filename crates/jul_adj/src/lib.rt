@@ -11,9 +11,11 @@ mod offsets;
 mod reading;
 mod rules;
 mod scanning;
+mod writing;
 
 pub use faults::{Fault, FaultKind, ReadError};
 pub use reading::read_graph;
+pub use writing::write_graph;
 
 #[cfg(test)]
 mod tests;
