@@ -1,8 +1,8 @@
 //! Graph files: reading them, and writing a graph as one.
 //!
-//! A file is in the text format AdjacencyGraph or WeightedAdjacencyGraph of the Problem Based Benchmark
-//! Suite (PBBS): a header word, the numbers of vertices and places, the offsets, the targets, and in a
-//! weighted file the weights. Start with `read_graph`; a file that is no graph has one `Fault`.
+//! A file is in the text format AdjacencyGraph or WeightedAdjacencyGraph of the Problem Based
+//! Benchmark Suite (PBBS): a header word, the numbers of vertices and places, the offsets, the targets,
+//! and in a weighted file the weights. Start with `read_graph`; a file that is no graph has one `Fault`.
 #![tactic(auto)]
 
 mod faults;

@@ -11,14 +11,16 @@ use jul_base::{Failed, RawGraph, Sink, TextBlock};
 
 /// Writes a graph in the text format of PBBS, each token followed by LF.
 ///
-/// The text is read back as the same graph. After `Failed` a part of it was written that isn't the whole.
-/// The sink gets some thousand bytes at a time. Takes no memory.
+/// The text is read back as the same graph. After `Failed` a part of it was written that isn't the
+/// whole. The sink gets some thousand bytes at a time. Takes no memory.
 #[tactic(auto, using(crate::proofs::ReadBackLaws::written_texts))]
 pub fn write_graph<S: Sink>(sink: &mut S, graph: &RawGraph) -> Result<(), Failed>
     requires { IsLawful graph.now }
 
-    ensures ok { OnOk result (Appended (S.state sink.old) (S.state sink.new) (graph_text graph.now)) }
-    ensures err { OnErr result (FailedWriting (S.state sink.old) (S.state sink.new) (graph_text graph.now)) }
+    ensures ok { OnOk result (Appended (S.state sink.old) (S.state sink.new)
+        (graph_text graph.now)) }
+    ensures err { OnErr result (FailedWriting (S.state sink.old) (S.state sink.new)
+        (graph_text graph.now)) }
     ensures faults { (S.state sink.old).faults ≤ (S.state sink.new).faults }
 
     // The text says the graph, and is no longer than a file may be.
