@@ -15,11 +15,11 @@ use Rattle.jul_text.specs.declared.numerals.Numeral.TheVariants.{Value, Above, N
 use Rattle.jul_adj.specs.declared.faults.Fault.{Fault}
 use Rattle.jul_adj.specs.declared.faults.FaultKind.{FaultKind}
 use Rattle.jul_adj.specs.declared.faults.FaultKind.TheVariants as kinds
-use Rattle.jul_adj.specs.Roles.{weight, text_at, value_at, role_at, target, said_vertices, said_places, first_target, first_weight, all_tokens, is_weighted}
+use Rattle.jul_adj.specs.Roles.{text_at, value_at, said_vertices, said_places, first_target, first_weight, all_tokens, is_weighted}
 use Rattle.jul_adj.specs.Faults.{weight_fault, kind_at, fault_in, fault_at, with_place, faults, number_fault, next_offset_fault, target_fault, offset_fault}
 use Rattle.jul_adj.specs.Reading.{values_between, graph_of, decided, read_tokens}
 use Rattle.jul_adj.specs.Scanning.{NoneBefore}
-use Rattle.jul_adj.proofs.ReadingLaws.{role_offset}
+use Rattle.jul_adj.proofs.RoleLaws.{role_offset, role_target, role_weight}
 use Rattle.jul_adj.proofs.ScanningLaws.{no_word}
 
 -- ---- no fault at all
@@ -86,23 +86,6 @@ weight_ok (Value v) e = (v, refl)
 weight_ok Above e = absurd (cc)
 weight_ok Negative e = absurd (cc)
 weight_ok Bad e = absurd (cc)
-
-role_target : (ws : List Word) (j : ℕ) → first_target ws ≤ j → j < first_weight ws → role_at ws j ≡ target
-role_target ws j low high =
-    cond-false _ _ _ (ne_eqb j 0 (λ e. absurd (omega (arith, e))))
-    ∙ cond-false _ _ _ (ne_eqb j 1 (λ e. absurd (omega (arith, e))))
-    ∙ cond-false _ _ _ (ne_eqb j 2 (λ e. absurd (omega (arith, e))))
-    ∙ cond-false _ _ _ (le-ltb j (first_target ws) low)
-    ∙ cond-true _ _ _ (lt-ltb j (first_weight ws) high)
-
-role_weight : (ws : List Word) (j : ℕ) → first_weight ws ≤ j → j < all_tokens ws → role_at ws j ≡ weight
-role_weight ws j low high =
-    cond-false _ _ _ (ne_eqb j 0 (λ e. absurd (omega (arith, e))))
-    ∙ cond-false _ _ _ (ne_eqb j 1 (λ e. absurd (omega (arith, e))))
-    ∙ cond-false _ _ _ (ne_eqb j 2 (λ e. absurd (omega (arith, e))))
-    ∙ cond-false _ _ _ (le-ltb j (first_target ws) (omega arith))
-    ∙ cond-false _ _ _ (le-ltb j (first_weight ws) low)
-    ∙ cond-true _ _ _ (lt-ltb j (all_tokens ws) high)
 
 -- the values of a range of tokens, one by one
 length-values : (ws : List Word) (from to : ℕ) → from ≤ to → to ≤ length ws → length (values_between ws from to) ≡ to - from

@@ -1,12 +1,12 @@
 -- The first token that has a fault decides.
 use Rattle.std.proofs.Common.{◌≡◌, ℕ, zero, suc, ◌+◌, ◌-◌, ◌<◌, ◌≤◌, List, [], ◌∷◌, length, Some, None, Ok, Err, ◌∙◌, refl, ap, arith, inl, inr}
 use Rattle.std.specs.List.{filter_map, range_with_len, cons_option}
-use Rattle.std.proofs.lemmas.Bool.{cases_eq, ne_eqb, lt-ltb, le-ltb, cond-true, cond-false}
+use Rattle.std.proofs.lemmas.Bool.{cases_eq, lt-ltb, le-ltb, cond-true, cond-false}
 use Rattle.jul_text.specs.Tokens.{Word}
 use Rattle.jul_adj.specs.declared.faults.Fault.{Fault}
 use Rattle.jul_adj.specs.declared.faults.FaultKind.{FaultKind}
 use Rattle.jul_adj.specs.declared.faults.FaultKind.TheVariants.{Truncated}
-use Rattle.jul_adj.specs.Roles.{offset, word_at, first_target, all_tokens, role_at}
+use Rattle.jul_adj.specs.Roles.{word_at, all_tokens}
 use Rattle.jul_adj.specs.Faults.{kind_at, fault_at, with_place, faults}
 use Rattle.jul_adj.specs.Reading.{graph_of, decided, read_tokens}
 use Rattle.jul_adj.specs.Scanning.{NoneBefore}
@@ -56,11 +56,3 @@ reads_truncated ws len none lt = ap (decided ws len) (faults_none ws none) ∙ c
 
 pub reads_graph : (ws : List Word) (len : ℕ) → NoneBefore ws (length ws) → length ws ≡ all_tokens ws → read_tokens ws len ≡ Ok (graph_of ws)
 reads_graph ws len none e = ap (decided ws len) (faults_none ws none) ∙ cond-false _ _ _ (le-ltb (length ws) (all_tokens ws) (omega arith))
-
--- the role of a token by its number
-pub role_offset : (ws : List Word) (j : ℕ) → 3 ≤ j → j < first_target ws → role_at ws j ≡ offset
-role_offset ws j low high =
-    cond-false _ _ _ (ne_eqb j 0 (λ e. absurd (omega (arith, e))))
-    ∙ cond-false _ _ _ (ne_eqb j 1 (λ e. absurd (omega (arith, e))))
-    ∙ cond-false _ _ _ (ne_eqb j 2 (λ e. absurd (omega (arith, e))))
-    ∙ cond-true _ _ _ (lt-ltb j (first_target ws) high)

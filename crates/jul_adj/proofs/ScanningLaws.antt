@@ -1,6 +1,6 @@
 -- From one token to the next.
 use Rattle.std.proofs.Common.{◌≡◌, ℕ, ◌+◌, ◌<◌, ◌≤◌, ◌-◌, Bool, List, [], ◌∷◌, ◌++◌, map, length, get_or, take, drop, Some, None, Ok, Err, sym, ◌∙◌, subst, ap, arith, inl, inr}
-use Rattle.std.proofs.lemmas.Bool.{cases_lt, cond-false, ne_eqb, le-ltb}
+use Rattle.std.proofs.lemmas.Bool.{cases_lt}
 use Rattle.std.proofs.lemmas.List.{drop_more, drop_all, length-drop, take_more, get_or-drop, map_push}
 use Rattle.std.specs.Str.Parse.{digits_value}
 use Rattle.jul_text.specs.declared.tokens.Token.{Token}
@@ -9,10 +9,11 @@ use Rattle.jul_base.specs.declared.graphs.RawGraph.{RawGraph}
 use Rattle.jul_adj.specs.declared.faults.Fault.{Fault}
 use Rattle.jul_adj.specs.declared.faults.FaultKind.{FaultKind}
 use Rattle.jul_adj.specs.declared.faults.FaultKind.TheVariants.{Truncated, Trailing}
-use Rattle.jul_adj.specs.Roles.{word_at, value_at, first_target, first_weight, all_tokens}
+use Rattle.jul_adj.specs.Roles.{word_at, value_at, all_tokens}
 use Rattle.jul_adj.specs.Faults.{kind_at, fault_in}
 use Rattle.jul_adj.specs.Reading.{values_between, graph_of, read_tokens}
 use Rattle.jul_adj.specs.Scanning.{IsAt, IsClean, NoneBefore}
+use Rattle.jul_adj.proofs.RoleLaws.{role_extra}
 use Rattle.jul_adj.proofs.ReadingLaws.{none_more, reads_fault, reads_truncated, reads_graph}
 
 -- what the first of the tokens from a number on says
@@ -89,14 +90,7 @@ values_push ws from j low lt =
 
 -- a token behind the last one is a fault
 kind_extra : (ws : List Word) (j : ℕ) → j ≡ all_tokens ws → kind_at ws j ≡ Some Trailing
-kind_extra ws j e =
-    ap (fault_in ws j)
-    (cond-false _ _ _ (ne_eqb j 0 (λ z. absurd (omega (arith, z, e))))
-    ∙ cond-false _ _ _ (ne_eqb j 1 (λ z. absurd (omega (arith, z, e))))
-    ∙ cond-false _ _ _ (ne_eqb j 2 (λ z. absurd (omega (arith, z, e))))
-    ∙ cond-false _ _ _ (le-ltb j (first_target ws) (omega (arith, e)))
-    ∙ cond-false _ _ _ (le-ltb j (first_weight ws) (omega (arith, e)))
-    ∙ cond-false _ _ _ (le-ltb j (all_tokens ws) (omega (arith, e))))
+kind_extra ws j e = ap (fault_in ws j) (role_extra ws j (omega (arith, e)))
 
 pub trailing_is : (bytes : List ℕ) (at j len : ℕ) (t : Token) (f : Fault) → IsClean bytes at j → j ≡ all_tokens (tokens bytes) →
     tokens_from bytes at ≡ word_of bytes t ∷ tokens_from bytes t.end → f ≡ record { kind = Trailing; token = j; at = t.start } →

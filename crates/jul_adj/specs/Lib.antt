@@ -3,3 +3,4 @@ pub mod Faults
 pub mod Reading
 pub mod Rules
 pub mod Scanning
+pub mod Texts

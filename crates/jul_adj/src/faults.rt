@@ -41,11 +41,11 @@ pub enum FaultKind {
 pub struct Fault {
     /// What is wrong.
     pub kind: FaultKind,
-    /// The number of the token that has the fault, counted from 0. Where tokens are missing it is the
-    /// number of tokens, and in a file that is too long 0.
+    /// The number of the token that has the fault, counted from 0. Where tokens are missing it is
+    /// the number of tokens, and in a file that is too long 0.
     pub token: u64,
-    /// The index of that token's first byte. Where tokens are missing it is the length of the file, and
-    /// in a file that is too long the limit.
+    /// The index of that token's first byte. Where tokens are missing it is the length of the file,
+    /// and in a file that is too long the limit.
     pub at: u64,
 }
 

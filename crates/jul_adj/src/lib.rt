@@ -1,8 +1,8 @@
 //! Graph files: reading them, and writing a graph as one.
 //!
-//! A file is in the text format AdjacencyGraph or WeightedAdjacencyGraph of the Problem Based Benchmark
-//! Suite (PBBS): a header word, the numbers of vertices and places, the offsets, the targets, and in a
-//! weighted file the weights. Start with `read_graph`; a file that is no graph has one `Fault`.
+//! A file is in the text format AdjacencyGraph or WeightedAdjacencyGraph of the Problem Based
+//! Benchmark Suite (PBBS): a header word, the numbers of vertices and places, the offsets, the targets,
+//! and in a weighted file the weights. Start with `read_graph`; a file that is no graph has one `Fault`.
 #![tactic(auto)]
 
 mod faults;
@@ -11,9 +11,11 @@ mod offsets;
 mod reading;
 mod rules;
 mod scanning;
+mod writing;
 
 pub use faults::{Fault, FaultKind, ReadError};
 pub use reading::read_graph;
+pub use writing::write_graph;
 
 #[cfg(test)]
 mod tests;

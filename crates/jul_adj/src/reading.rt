@@ -2,7 +2,8 @@
 ghost use Rattle.std.specs.Prelude.{◌≡◌, ◌^◌, ◌<◌, ◌≤◌, length, IfOk, IfErr, Err};
 ghost use Rattle.jul_base.specs.Graph.{IsLawful};
 ghost use Rattle.jul_text.specs.Tokens.{tokens};
-ghost use Rattle.jul_adj.specs.Roles.{said_vertices, said_places, is_weighted, first_weight, all_tokens};
+ghost use Rattle.jul_adj.specs.Roles.{said_vertices, said_places, is_weighted};
+ghost use Rattle.jul_adj.specs.Roles.{first_weight, all_tokens};
 ghost use Rattle.jul_adj.specs.Reading.{values_between, read_tokens, reads, Fails, Gives};
 ghost use Rattle.jul_adj.specs.Scanning.{IsClean};
 
@@ -17,9 +18,9 @@ use std::alloc::Global;
 
 /// Reads the graph of a file in the text format of PBBS, or tells the first fault.
 ///
-/// A file longer than `limit` bytes has the fault `TooLong`, whatever else it has. Otherwise the first
-/// token that has a fault decides, and where none has one and tokens are missing, `Truncated`. Takes
-/// memory for the graph alone; the error `Memory` says nothing of the file.
+/// A file longer than `limit` bytes has the fault `TooLong`, whatever else it has. Otherwise the
+/// first token that has a fault decides, and where none has one and tokens are missing, the fault is
+/// `Truncated`. Takes memory for the graph alone; the error `Memory` says nothing of the file.
 pub fn read_graph(alloc: Global, bytes: &[u8], limit: u64) -> Result<RawGraph, ReadError>
     ensures exact { Gives result (reads bytes.now limit) }
     ensures lawful { IfOk result IsLawful }

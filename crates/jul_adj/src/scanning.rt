@@ -27,7 +27,8 @@ pub(crate) struct Number {
 pub(crate) fn next_number(bytes: &[u8], place: Place, bound: u64) -> Option<Number>
     requires { IsAt bytes.now place.at place.token }
 
-    ensures numeral { IfSome result (λ r. r.numeral ≡ numeral (text_at (tokens bytes.now) place.token) bound) }
+    ensures numeral { IfSome result (λ r.
+        r.numeral ≡ numeral (text_at (tokens bytes.now) place.token) bound) }
     ensures start { IfSome result (λ r. r.start ≡ (word_at (tokens bytes.now) place.token).start) }
     ensures there { IfSome result (λ r. place.token < length (tokens bytes.now)) }
     ensures next { IfSome result (λ r. IsAt bytes.now r.next.at r.next.token) }

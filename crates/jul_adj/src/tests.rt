@@ -1,5 +1,7 @@
-//! Reading with ample memory, on files whose answers were found by hand.
-use crate::{Fault, FaultKind, ReadError, read_graph};
+//! Reading and writing with ample memory, on files whose answers were found by hand.
+use crate::{Fault, FaultKind, ReadError, read_graph, write_graph};
+use jul_base::MemSink;
+use std::test::Fail;
 
 #[test]
 fn a_file_of_18_bytes_is_too_long_for_17(rt: HostRuntime) {
@@ -31,4 +33,34 @@ fn a_weighted_file_in_any_lines_is_read(rt: HostRuntime) {
         }
         Err(e) => panic!(rt; "{e}"),
     }
+}
+
+#[test]
+fn a_graph_is_written_one_token_a_line(rt: HostRuntime) -> Result<(), Fail> {
+    let files = [
+        ("AdjacencyGraph 0 0", "AdjacencyGraph\n0\n0\n"),
+        (
+            "WeightedAdjacencyGraph\r\n3 3\r\n0 02 2\t1 2 1\n5 1 2",
+            "WeightedAdjacencyGraph\n3\n3\n0\n2\n2\n1\n2\n1\n5\n1\n2\n",
+        ),
+    ];
+    for (file, text) in files {
+        let room = Vec::with_capacity(rt.alloc(), 100)?;
+        let mut sink = MemSink::new(room, 7, Vec::new(rt.alloc()));
+        let graph = read_graph(rt.alloc(), file.as_bytes(), 1000)?;
+        assert!(rt; write_graph(&mut sink, &graph).is_ok());
+        assert_eq!(rt; sink.bytes.as_slice(), text.as_bytes());
+    }
+    Ok(())
+}
+
+#[test]
+fn a_failed_write_is_told(rt: HostRuntime) -> Result<(), Fail> {
+    let room = Vec::with_capacity(rt.alloc(), 100)?;
+    let fails = [2].to_vec(rt.alloc())?;
+    let mut sink = MemSink::new(room, 7, fails);
+    let graph = read_graph(rt.alloc(), b"AdjacencyGraph 0 0", 1000)?;
+    assert!(rt; write_graph(&mut sink, &graph).is_err());
+    assert_eq!(rt; sink.bytes.as_slice(), b"Adjacen".as_slice());
+    Ok(())
 }

@@ -1,5 +1,6 @@
 //! Decimal numbers.
-ghost use Rattle.std.specs.Prelude.{◌≡◌, ◌+◌, ◌-◌, ◌*◌, ◌<◌, ◌≤◌, ◌↔◌, true, IsTrue, IfSome, IfNone};
+ghost use Rattle.std.specs.Prelude.{◌≡◌, ◌+◌, ◌-◌, ◌*◌, ◌<◌, ◌≤◌, ◌↔◌};
+ghost use Rattle.std.specs.Prelude.{true, IsTrue, IfSome, IfNone};
 ghost use Rattle.std.specs.List.{list_all};
 ghost use Rattle.std.specs.Char.{is_ascii_digit};
 ghost use Rattle.std.specs.Str.Parse.{digits_value};
@@ -18,7 +19,7 @@ pub enum Numeral {
     Bad,
 }
 
-// The value with one more digit behind it, if the byte is a digit and the new value is at most `bound`.
+// The value with one more digit behind it, if the byte is a digit and the new value is within `bound`.
 #[inline]
 fn with_digit(value: u64, byte: u8, bound: u64) -> Option<u64>
     ensures digit { IfSome result (λ v. is_ascii_digit byte ≡ true) }

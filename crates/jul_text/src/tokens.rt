@@ -20,7 +20,8 @@ fn is_white_byte(byte: u8) -> bool
     byte == b' ' || byte == b'\t' || byte == b'\r' || byte == b'\n'
 }
 
-// The first place at or after `from` whose byte is white or not, as `white` says, or else the length.
+// The first place at or after `from` whose byte is white, or not white if `white` is false, or else
+// the length.
 #[inline]
 fn first_place(bytes: &[u8], from: usize, white: bool) -> usize
     requires { from ≤ length bytes.now }
@@ -42,8 +43,8 @@ fn first_place(bytes: &[u8], from: usize, white: bool) -> usize
 
 /// The first token at or after the place `from`, which may be the end of the text.
 ///
-/// White bytes are space, tab, CR and LF. Where `from` stands inside a token, the rest of that token
-/// counts as one. None means that only white bytes are left. Takes no memory.
+/// White bytes are space, tab, CR and LF. Where `from` stands inside a token, the rest of that
+/// token counts as one. None means that only white bytes are left. Takes no memory.
 #[inline]
 #[tactic(auto, using(crate::proofs::TokenLaws::next_tokens))]
 pub fn next_token(bytes: &[u8], from: usize) -> Option<Token>
