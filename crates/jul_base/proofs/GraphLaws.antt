@@ -46,8 +46,8 @@ weight-le g lawful p =
       | inl own ↦ omega (arith, cond-true g.weighted (get_or g.weights p 0) 1 own, All-at g.weights lawful.light)
       | inr none ↦ omega (arith, cond-false g.weighted (get_or g.weights p 0) 1 none)
     ] where
-  All-at : (ws : List ℕ) → All (λ w. w ≤ MAX_W) ws → get_or ws p 0 ≤ MAX_W
-  All-at ws all = elim (cases_lt p (length ws)) [
-    | inl lt ↦ All-get_or (λ w. w ≤ MAX_W) ws p 0 lt all
-    | inr le ↦ omega (arith, get_or_past ws p 0 le)
-  ]
+      All-at : (ws : List ℕ) → All (λ w. w ≤ MAX_W) ws → get_or ws p 0 ≤ MAX_W
+      All-at ws all = elim (cases_lt p (length ws)) [
+        | inl lt ↦ All-get_or (λ w. w ≤ MAX_W) ws p 0 lt all
+        | inr le ↦ omega (arith, get_or_past ws p 0 le)
+      ]

@@ -1,13 +1,12 @@
 -- A place that lowers a number keeps what the column keeps.
-use Rattle.std.proofs.Common.{◌≡◌, ◌≢◌, ℕ, ◌+◌, ◌*◌, ◌^◌, ◌<◌, ◌≤◌, not, eqb, cond, ltb, List, [], ◌∷◌, ◌++◌, length, get_or, set, replicate, sym, ◌∙◌, subst, ap, arith, inl, inr}
-use Rattle.std.proofs.lemmas.Bool.{cases_eq, cases_lt, ne_eqb, lt-ltb, le-ltb, cond-true, cond-false}
+use Rattle.std.proofs.Common.{◌≡◌, ◌≢◌, ℕ, ◌+◌, ◌*◌, ◌^◌, ◌<◌, ◌≤◌, not, eqb, cond, List, [], ◌∷◌, ◌++◌, length, get_or, set, replicate, sym, ◌∙◌, subst, ap, arith, inl, inr}
+use Rattle.std.proofs.lemmas.Bool.{cases_eq, ne_eqb}
 use Rattle.std.proofs.lemmas.List.{length-set, length-replicate, get_or-replicate, get_or-set_same, get_or-set_other}
 use Rattle.std.proofs.lemmas.List.Sums.{sum_by-set, count_by-le-length}
-use Rattle.std.proofs.lemmas.List.Elements.{All-get_or}
 use Rattle.std.proofs.Math.Nat.{mul-le-mul_right}
 use Rattle.jul_base.specs.declared.graphs.RawGraph.{RawGraph}
 use Rattle.jul_base.specs.declared.limits.TheConstants.{NONE, MAX_W}
-use Rattle.jul_base.specs.Graph.{vertices, places, row_end, target, weight, IsPlaceOf, IsLawful}
+use Rattle.jul_base.specs.Graph.{vertices, target, weight, IsPlaceOf, IsLawful}
 use Rattle.jul_base.specs.Distances.{IsWalkSum}
 use Rattle.jul_base.proofs.GraphLaws.{place_in_range, target_in_range}
 use Rattle.jul_base.proofs.WalkLaws.{IsWalk-push, walk_sum-push}

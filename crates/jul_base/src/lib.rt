@@ -35,3 +35,6 @@ pub use shelves::Shelf;
 pub use sinks::{Failed, Sink};
 pub use text_blocks::TextBlock;
 pub use writing::{write_u64, write_whole};
+
+#[cfg(test)]
+mod tests;

@@ -7,13 +7,16 @@ use crate::limits::MAX_BYTES;
 use crate::shelves::Shelf;
 use crate::sinks::Failed;
 use std::alloc::{AllocError, Global};
+use thiserror::Error;
 
 /// Why a file was not loaded.
-#[derive(Clone, Copy, Debug, PartialEq, Eq)]
+#[derive(Clone, Copy, Debug, PartialEq, Eq, Error)]
 pub enum LoadError {
     /// The shelf failed, or no file has the name.
+    #[error("Failed")]
     Failed,
     /// Memory ran out.
+    #[error("Memory")]
     Memory,
 }
 
