@@ -14,3 +14,6 @@ mod statuses;
 
 pub use running::run;
 pub use statuses::{Status, Which};
+
+#[cfg(test)]
+mod tests;
