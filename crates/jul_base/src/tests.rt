@@ -1,7 +1,7 @@
 //! Files and sinks, real ones and failing ones. Expected bytes are written by hand.
 use crate::{LoadError, MemShelf, MemSink, RealShelf, RealSink, load_all, write_u64, write_whole};
 use std::alloc::{AllocError, Global};
-use std::fs;
+use std::fs::OpenOptions;
 use std::test::Fail;
 
 fn one_file(alloc: Global, name: &str, bytes: &[u8]) -> Result<Vec<(String, Vec<u8>)>, AllocError> {
@@ -58,14 +58,15 @@ fn a_failing_sink_keeps_what_it_got(rt: HostRuntime) -> Result<(), Fail> {
 }
 
 #[test]
-fn a_real_file_is_written_and_loaded(rt: HostRuntime) -> Result<(), Fail> {
-    let name = "/tmp/jul_base_real_file";
-    let mut sink = RealSink::new(fs::create(&rt, name)?);
-    assert!(rt; write_whole(&mut sink, b"one\ntwo\n").is_ok());
+fn real_files_are_loaded_and_written(rt: HostRuntime) -> Result<(), Fail> {
     let mut shelf = RealShelf::new(rt);
-    let bytes = load_all(rt.alloc(), &mut shelf, name, 100)?;
-    assert_eq!(rt; bytes.as_slice(), b"one\ntwo\n".as_slice());
-    let missing = load_all(rt.alloc(), &mut shelf, "/tmp/jul_base_no_such_file", 100);
+    let bytes = load_all(rt.alloc(), &mut shelf, "/proc/sys/kernel/ostype", 100)?;
+    assert_eq!(rt; bytes.as_slice(), b"Linux\n".as_slice());
+    let missing = load_all(rt.alloc(), &mut shelf, "/proc/no_such_file", 100);
     assert_eq!(rt; missing.err(), Some(LoadError::Failed));
+    let mut sink = RealSink::new(OpenOptions::new().write(true).open(&rt, "/dev/null")?);
+    assert!(rt; write_whole(&mut sink, b"one\ntwo\n").is_ok());
+    let mut full = RealSink::new(OpenOptions::new().write(true).open(&rt, "/dev/full")?);
+    assert!(rt; write_whole(&mut full, b"one\ntwo\n").is_err());
     Ok(())
 }
