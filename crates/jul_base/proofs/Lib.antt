@@ -8,3 +8,7 @@ pub mod DistanceLaws
 pub mod TentativeLaws
 pub mod Rows
 pub mod LogLaws
+pub mod PartLaws
+pub mod InRowLaws
+pub mod SymmetryLaws
+pub mod SetLaws

@@ -3,6 +3,10 @@
 //! The form is that of Ligra (Shun, Blelloch, PPoPP 2013), compressed sparse rows. Start with `Rows`.
 #![tactic(auto)]
 
+mod cuts;
+mod flipping;
+mod in_rows;
 mod out_rows;
 
+pub use in_rows::InRows;
 pub use out_rows::Rows;
