@@ -2,7 +2,8 @@
 use Rattle.std.proofs.Common.{◌≡◌, ℕ, zero, suc, ◌+◌, ◌-◌, ◌<◌, ◌≤◌, List, [], ◌∷◌, ◌++◌, length, get_or, cond, Bool, true, false, ◌&&◌, eqb, ltb, leb, sym, ◌∙◌, ap, refl, arith, inl, inr}
 use Rattle.std.specs.List.{filter, count_by, slice_range, Contains}
 use Rattle.std.proofs.lemmas.Bool.{cases_Bool, cases_lt, cases_eq, eq-eqb, eqb-true, ne_eqb, le-leb, lt-leb, lt-ltb, le-ltb, leb-true, ltb-true, and_parts, and_from, and_left, and_right, false_from_ne_true}
-use Rattle.std.proofs.lemmas.List.Sums.{sum_by-append, sum_by-cons, sum_by_push}
+use Rattle.std.proofs.lemmas.List.Sums.{sum_by-append, sum_by-cons, sum_by_push, length-filter, count_by-le-length}
+use Rattle.std.proofs.lemmas.List.FromFn.{length-range_with_len}
 use Rattle.std.proofs.lemmas.List.Edits.{between_more, between_none}
 use Rattle.jul_base.specs.declared.graphs.RawGraph.{RawGraph}
 use Rattle.jul_base.specs.Numbers.{below}
@@ -117,3 +118,14 @@ count_in_row g lawful u v in_range us are =
     ∙ ap (counted g u v) (sym within)
     ∙ counted_within g lawful u v (end - start) (omega arith)
     ∙ ap (λ (n : ℕ). count_by (λ w. eqb w v) (slice_range g.targets start n)) within
+
+-- there are at most as many places to v as places
+pub length-in_places : (g : RawGraph) (v : ℕ) → length (in_places g v) ≤ places g
+length-in_places g v =
+    let test : ℕ → Bool = λ p. eqb (target g p) v in
+    omega (
+      arith,
+      length-filter test (below (places g)),
+      count_by-le-length test (below (places g)),
+      length-range_with_len 0 (places g),
+    )

@@ -3,13 +3,14 @@ use Rattle.std.proofs.Common.{◌≡◌, ◌≢◌, ℕ, zero, suc, ◌+◌, ◌
 use Rattle.std.specs.List.{filter, list_any, Contains, range_with_len, AllPairs}
 use Rattle.std.specs.List.Sorted.{IsStrictlyIncreasing}
 use Rattle.std.proofs.lemmas.Bool.{eq-eqb, eqb-true, cases_Bool}
+use Rattle.std.proofs.lemmas.List.Elements.{Contains-get_or}
 use Rattle.std.proofs.lemmas.List.Folds.{Any-from_list_any, list_any_at}
 use Rattle.std.proofs.lemmas.List.Kept.{IsStrictlyIncreasing-filter, AllPairs-from_increasing}
 use Rattle.std.proofs.lemmas.List.FromFn.{length-range_with_len, get_or-range_with_len, length-map-range_with_len, get_or-map-range_with_len}
 use Rattle.jul_base.specs.declared.graphs.RawGraph.{RawGraph}
 use Rattle.jul_base.specs.Numbers.{below}
 use Rattle.jul_base.specs.Graph.{vertices, row}
-use Rattle.jul_base.specs.Sets.{has, set_of, sets_of, IsElementOf, IsElement}
+use Rattle.jul_base.specs.Sets.{has, set_of, sets_of, AreSets, IsElementOf, IsElement}
 
 pub Contains-from_has : (xs : List ℕ) (x : ℕ) → has xs x ≡ true → Contains xs x
 Contains-from_has xs x found =
@@ -137,3 +138,22 @@ pub IsElementOf-from_graph : (g : RawGraph) (e : ℕ) → IsElement g e → IsEl
 IsElementOf-from_graph g e (s, lt, held) =
     let P : List ℕ → Type 0 = λ set. Contains set e in
     (s, omega (arith, length-map-range_with_len (set_of g) 0 (vertices g)), subst P (sym (get_or-sets_of g s lt)) held)
+
+pub length-sets_of : (g : RawGraph) → length (sets_of g) ≡ vertices g
+length-sets_of g = length-map-range_with_len (set_of g) 0 (vertices g)
+
+pub set_of-below : (g : RawGraph) (s e : ℕ) → Contains (set_of g s) e → e < vertices g
+set_of-below g s e held = below-Contains (vertices g) e (Contains-from_filter (has (row g s)) (below (vertices g)) e held).0
+
+pub AreSets-sets_of : (g : RawGraph) → AreSets (sets_of g)
+AreSets-sets_of g = record {
+  increasing = λ s lt.
+      let in_range : s < vertices g = omega (arith, length-sets_of g) in
+      let P : List ℕ → Type 0 = IsStrictlyIncreasing in
+      subst P (sym (get_or-sets_of g s in_range)) (IsStrictlyIncreasing-set_of g s);
+  within = λ s lt k d k_lt.
+      let in_range : s < vertices g = omega (arith, length-sets_of g) in
+      let is : get_or (sets_of g) s [] ≡ set_of g s = get_or-sets_of g s in_range in
+      let held : Contains (set_of g s) (get_or (get_or (sets_of g) s []) k d) = rw is (Contains-get_or (set_of g s) k d (rw is at k_lt)) in
+      omega (arith, set_of-below g s (get_or (get_or (sets_of g) s []) k d) held, length-sets_of g);
+}

@@ -1,2 +1,4 @@
 pub mod CutLaws
 pub mod FillingLaws
+pub mod TallyLaws
+pub mod BalanceLaws

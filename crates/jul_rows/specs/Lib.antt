@@ -1,2 +1,3 @@
 pub mod Cuts
 pub mod Filling
+pub mod Balance

@@ -7,6 +7,8 @@ mod cuts;
 mod flipping;
 mod in_rows;
 mod out_rows;
+mod symmetry;
+mod tally;
 
 pub use in_rows::InRows;
 pub use out_rows::Rows;
