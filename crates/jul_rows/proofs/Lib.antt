@@ -2,3 +2,4 @@ pub mod CutLaws
 pub mod FillingLaws
 pub mod TallyLaws
 pub mod BalanceLaws
+pub mod GatheringLaws

@@ -4,11 +4,14 @@
 #![tactic(auto)]
 
 mod cuts;
+mod distinct;
 mod flipping;
 mod in_rows;
 mod out_rows;
+mod set_rows;
 mod symmetry;
 mod tally;
 
 pub use in_rows::InRows;
 pub use out_rows::Rows;
+pub use set_rows::SetRows;
