@@ -3,8 +3,6 @@ use Rattle.std.proofs.Common.{◌≡◌, ℕ, ◌+◌, ◌<◌, ◌≤◌, List,
 use Rattle.std.proofs.lemmas.Bool.{cases_lt, cases_Bool, lt-ltb, le-ltb, cond-true, cond-false}
 use Rattle.std.specs.List.{All}
 use Rattle.std.proofs.lemmas.List.{get_or_past}
-use Rattle.std.proofs.Common.{◌≡◌, ℕ, zero, suc, ◌+◌, ◌<◌, ◌≤◌, ltb, true, false, get_or, cond, length, ap, arith, inl, inr}
-use Rattle.std.proofs.lemmas.Bool.{cases_lt, cases_order, lt-ltb, le-ltb, cond-true, cond-false}
 use Rattle.std.proofs.lemmas.List.Elements.{All-get_or}
 use Rattle.jul_base.specs.declared.graphs.RawGraph.{RawGraph}
 use Rattle.jul_base.specs.declared.limits.TheConstants.{MAX_W}
@@ -53,23 +51,3 @@ weight-le g lawful p =
     | inl lt ↦ All-get_or (λ w. w ≤ MAX_W) ws p 0 lt all
     | inr le ↦ omega (arith, get_or_past ws p 0 le)
   ]
--- a row ends before any later one begins
-pub row_end-le-row_start : (g : RawGraph) → IsLawful g → (u w : ℕ) → u < w → w < vertices g → row_end g u ≤ row_start g w
-row_end-le-row_start g lawful u zero lt in_range = absurd (omega arith)
-row_end-le-row_start g lawful u (suc w) lt in_range =
-    let rises : row_start g w ≤ row_start g (w + 1) = lawful.rising w (omega arith) in
-    let next : w + 1 ≡ suc w = omega arith in
-    let here : row_end g w ≡ row_start g (w + 1) = row_end-next g w (omega arith) in
-    elim (cases_lt u w) [
-      | inl before ↦ omega (arith, row_end-le-row_start g lawful u w before (omega arith), ap (row_start g) next)
-      | inr after ↦ let same : u ≡ w = omega arith in omega (arith, ap (row_end g) same, ap (row_start g) next)
-    ]
-
--- a place has one source
-pub IsPlaceOf-unique : (g : RawGraph) → IsLawful g → (u w p : ℕ) → IsPlaceOf g u p → IsPlaceOf g w p → u ≡ w
-IsPlaceOf-unique g lawful u w p a b =
-    elim (cases_order u w) [
-      | inl same ↦ same
-      | inr (inl less) ↦ absurd (omega (arith, row_end-le-row_start g lawful u w less b.vertex, a.to, b.from))
-      | inr (inr more) ↦ absurd (omega (arith, row_end-le-row_start g lawful w u more a.vertex, b.to, a.from))
-    ]

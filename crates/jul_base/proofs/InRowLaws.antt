@@ -1,6 +1,9 @@
 -- In-rows: which places they hold, and how often a vertex stands among the sources.
 use Rattle.std.proofs.Common.{◌≡◌, ℕ, zero, suc, ◌+◌, ◌-◌, ◌<◌, ◌≤◌, List, [], ◌∷◌, ◌++◌, length, get_or, cond, Bool, true, false, ◌&&◌, eqb, ltb, leb, sym, ◌∙◌, ap, refl, arith, inl, inr}
 use Rattle.std.specs.List.{filter, count_by, slice_range, Contains}
+use Rattle.std.specs.List.Sorted.{IsStrictlyIncreasing}
+use Rattle.std.proofs.lemmas.List.Elements.{Contains-get_or}
+use Rattle.std.proofs.lemmas.List.Kept.{IsStrictlyIncreasing-filter}
 use Rattle.std.proofs.lemmas.Bool.{cases_Bool, cases_lt, cases_eq, eq-eqb, eqb-true, ne_eqb, le-leb, lt-leb, lt-ltb, le-ltb, leb-true, ltb-true, and_parts, and_from, and_left, and_right, false_from_ne_true}
 use Rattle.std.proofs.lemmas.List.Sums.{sum_by-append, sum_by-cons, sum_by_push, length-filter, count_by-le-length}
 use Rattle.std.proofs.lemmas.List.FromFn.{length-range_with_len}
@@ -9,7 +12,9 @@ use Rattle.jul_base.specs.declared.graphs.RawGraph.{RawGraph}
 use Rattle.jul_base.specs.Numbers.{below}
 use Rattle.jul_base.specs.Graph.{vertices, places, target, row, row_start, row_end, count, IsPlaceOf, IsLawful}
 use Rattle.jul_base.specs.InRows.{in_places, AreSources}
-use Rattle.jul_base.proofs.GraphLaws.{row_end-le, row_start-le-row_end, IsPlaceOf-unique}
+use Rattle.jul_base.proofs.GraphLaws.{row_end-le, row_start-le-row_end}
+use Rattle.jul_base.proofs.RowLaws.{IsPlaceOf-unique}
+use Rattle.jul_base.proofs.SetLaws.{Contains-filter, Contains-from_filter, Contains-below, below-Contains, IsStrictlyIncreasing-below}
 use Rattle.jul_base.proofs.PartLaws.{filter_below-more}
 
 -- whether place p is one of u
@@ -129,3 +134,19 @@ length-in_places g v =
       count_by-le-length test (below (places g)),
       length-range_with_len 0 (places g),
     )
+
+-- the in-row of v holds the places that lead to v, and those alone, in increasing order
+pub Contains-in_places : (g : RawGraph) (v p : ℕ) → p < places g → target g p ≡ v → Contains (in_places g v) p
+Contains-in_places g v p lt is =
+    Contains-filter (λ q. eqb (target g q) v) (below (places g)) p (Contains-below (places g) p lt) (eq-eqb (target g p) v is)
+
+pub in_places-at : (g : RawGraph) (v k : ℕ) → k < length (in_places g v) →
+    (get_or (in_places g v) k 0 < places g) × (target g (get_or (in_places g v) k 0) ≡ v)
+in_places-at g v k lt =
+    let p : ℕ = get_or (in_places g v) k 0 in
+    let held = Contains-from_filter (λ q. eqb (target g q) v) (below (places g)) p (Contains-get_or (in_places g v) k 0 lt) in
+    (below-Contains (places g) p held.0, eqb-true (target g p) v held.1)
+
+pub IsStrictlyIncreasing-in_places : (g : RawGraph) (v : ℕ) → IsStrictlyIncreasing (in_places g v)
+IsStrictlyIncreasing-in_places g v =
+    IsStrictlyIncreasing-filter (λ q. eqb (target g q) v) (below (places g)) (IsStrictlyIncreasing-below (places g))

@@ -9,6 +9,8 @@ pub mod TentativeLaws
 pub mod Rows
 pub mod LogLaws
 pub mod PartLaws
+pub mod RowLaws
 pub mod InRowLaws
 pub mod SymmetryLaws
 pub mod SetLaws
+pub mod SmallGraphs

@@ -3,21 +3,10 @@ use Rattle.std.proofs.Common.{◌≡◌, ℕ, zero, suc, ◌+◌, ◌-◌, ◌<�
 use Rattle.std.specs.List.{count_by}
 use Rattle.std.proofs.lemmas.Bool.{cases_eq, ne_eqb}
 use Rattle.std.proofs.lemmas.List.Sums.{sum_by-cons}
-use Rattle.std.proofs.lemmas.List.Edits.{length-between, get_or-between}
 use Rattle.jul_base.specs.declared.graphs.RawGraph.{RawGraph}
 use Rattle.jul_base.specs.Graph.{vertices, places, target, row, row_start, row_end, count, IsPlaceOf, IsLawful}
 use Rattle.jul_base.specs.Symmetry.{IsSymmetric}
-use Rattle.jul_base.proofs.GraphLaws.{row_end-le, row_start-le-row_end}
-
-pub length-row : (g : RawGraph) → IsLawful g → (u : ℕ) → length (row g u) ≡ row_end g u - row_start g u
-length-row g lawful u = length-between g.targets (row_start g u) (row_end g u) (row_end-le g lawful u)
-
--- the target number k of a row is that of its place number k
-pub row-at : (g : RawGraph) → IsLawful g → (u k : ℕ) → k < length (row g u) → get_or (row g u) k 0 ≡ target g (row_start g u + k)
-row-at g lawful u k lt = get_or-between g.targets (row_start g u) (row_end g u) k 0 (omega (arith, length-row g lawful u))
-
-pub IsPlaceOf-at : (g : RawGraph) → IsLawful g → (u k : ℕ) → u < vertices g → k < length (row g u) → IsPlaceOf g u (row_start g u + k)
-IsPlaceOf-at g lawful u k in_range lt = record { vertex = in_range; from = omega arith; to = omega (arith, length-row g lawful u) }
+use Rattle.jul_base.proofs.RowLaws.{row-at, IsPlaceOf-at}
 
 -- a number is not in a list at all, or it stands somewhere
 pub counted_cases : (w : ℕ) (xs : List ℕ) → (count_by (λ x. eqb x w) xs ≡ 0) ⊎ ((k : ℕ) × (k < length xs) × (get_or xs k 0 ≡ w))

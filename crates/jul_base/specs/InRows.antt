@@ -19,9 +19,10 @@ pub record InEdges : Type 0 where
   pub places : List (List ℕ)
   pub sources : List (List ℕ)
 
--- the lists of a vertex are exactly the places that lead to it, in increasing order, and their sources
+-- each vertex has exactly the places that lead to it, in increasing order, and their sources
 pub record IsFlip (g : RawGraph) (edges : InEdges) : Type 0 where
   pub size : length edges.places ≡ vertices g
   pub as_many : length edges.sources ≡ vertices g
   pub places : (v : ℕ) → v < vertices g → slice_index_or edges.places v [] ≡ in_places g v
-  pub sources : (v : ℕ) → v < vertices g → AreSources g (slice_index_or edges.sources v []) (in_places g v)
+  pub sources : (v : ℕ) → v < vertices g →
+      AreSources g (slice_index_or edges.sources v []) (in_places g v)

@@ -6,9 +6,10 @@ use Rattle.jul_base.specs.declared.graphs.RawGraph.{RawGraph}
 use Rattle.jul_base.specs.Graph.{vertices, places, target, row, row_start, row_end, count, IsPlaceOf, IsLawful}
 use Rattle.jul_base.specs.InRows.{in_places, AreSources}
 use Rattle.jul_base.specs.Symmetry.{IsSymmetric, IsAsymmetricPlace, IsFirstAsymmetricPlace}
-use Rattle.jul_base.proofs.GraphLaws.{row_end-le-row_start, IsPlaceOf-unique, target_in_range, place_in_range}
+use Rattle.jul_base.proofs.GraphLaws.{target_in_range, place_in_range}
+use Rattle.jul_base.proofs.RowLaws.{row_end-le-row_start, length-row, row-at, IsPlaceOf-at}
 use Rattle.jul_base.proofs.InRowLaws.{count_in_row}
-use Rattle.jul_base.proofs.SymmetryLaws.{length-row, row-at, IsPlaceOf-at, IsSymmetric-from_places}
+use Rattle.jul_base.proofs.SymmetryLaws.{IsSymmetric-from_places}
 use Rattle.jul_rows.specs.Balance.{IsTallyOf, IsBalancedAt, IsBalancedRow, IsFirstOfRow, IsFirstExcess}
 
 -- the two tallies at a vertex w are the counts one way and the other

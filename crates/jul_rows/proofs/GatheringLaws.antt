@@ -18,7 +18,7 @@ use Rattle.jul_base.specs.Numbers.{below}
 use Rattle.jul_base.specs.Graph.{vertices, places, row, row_start, row_end, IsLawful}
 use Rattle.jul_base.specs.Sets.{has, set_of, sets_of, AreSets, IsElementOf}
 use Rattle.jul_base.proofs.GraphLaws.{row_end-le, row_end-next, row_start-le-row_end}
-use Rattle.jul_base.proofs.SymmetryLaws.{length-row}
+use Rattle.jul_base.proofs.RowLaws.{length-row}
 use Rattle.jul_base.proofs.SetLaws.{increasing_unique, Contains-from_has, has-from_Contains, Contains-filter, Contains-from_filter, Contains-below, IsStrictlyIncreasing-below, length-sets_of, get_or-sets_of, set_of-below, AreSets-sets_of}
 use Rattle.jul_rows.specs.Cuts.{part, parts, IsCut}
 use Rattle.jul_rows.specs.Gathering.{IsGathered, AreMarks}

@@ -15,7 +15,7 @@ IsBalancedAt g u p = count g u (target g p) ≤ count g (target g p) u
 abbrev pub IsBalancedRow : RawGraph → ℕ → Type 0
 IsBalancedRow g u = (p : ℕ) → IsPlaceOf g u p → IsBalancedAt g u p
 
--- p is the first place of u whose target stands in the row of u more often than u in that of the target
+-- p is the first place of u that isn't balanced
 pub record IsFirstOfRow (g : RawGraph) (u p : ℕ) : Type 0 where
   pub place : IsPlaceOf g u p
   pub more : count g (target g p) u < count g u (target g p)
@@ -25,4 +25,5 @@ pub record IsFirstOfRow (g : RawGraph) (u p : ℕ) : Type 0 where
 pub record IsFirstExcess (row to from : List ℕ) (k : ℕ) : Type 0 where
   pub within : k < length row
   pub more : slice_index from (slice_index row k) < slice_index to (slice_index row k)
-  pub before : (i : ℕ) → i < k → slice_index to (slice_index row i) ≤ slice_index from (slice_index row i)
+  pub before : (i : ℕ) → i < k →
+      slice_index to (slice_index row i) ≤ slice_index from (slice_index row i)

@@ -1,5 +1,6 @@
 -- Sets that are gathered row by row, and marks for the elements of sets.
-use Rattle.std.specs.Prelude.{◌≡◌, ◌↔◌, ℕ, ◌+◌, ◌<◌, ◌≤◌, Bool, false, IsTrue, List, length, slice_index}
+use Rattle.std.specs.Prelude.{◌≡◌, ◌↔◌, ℕ, ◌+◌, ◌<◌, ◌≤◌, List, length, slice_index}
+use Rattle.std.specs.Prelude.{Bool, false, IsTrue}
 use Rattle.std.specs.List.{slice_index_or}
 use Rattle.jul_base.specs.declared.graphs.RawGraph.{RawGraph}
 use Rattle.jul_base.specs.Graph.{vertices, places, row_start}
@@ -23,4 +24,5 @@ HasGathered g s gathering = IsGathered g s gathering.bounds.items gathering.item
 -- a mark for each vertex, set exactly where the vertex stands in a set
 pub record AreMarks (sets : List (List ℕ)) (marks : List Bool) : Type 0 where
   pub size : length marks ≡ length sets
-  pub each : (v : ℕ) → v < length marks → (IsTrue (slice_index_or marks v false) ↔ IsElementOf sets v)
+  pub each : (v : ℕ) → v < length marks →
+      (IsTrue (slice_index_or marks v false) ↔ IsElementOf sets v)

@@ -29,8 +29,8 @@ impl Model for InRows {
       sources = parts r.bounds.items r.sources.items;
     } };
 
-    ghost invariant = { λ r.
-        IsCut r.bounds.items (length r.places.items) × (length r.sources.items ≡ length r.places.items) };
+    ghost invariant = { λ r. IsCut r.bounds.items (length r.places.items)
+        × (length r.sources.items ≡ length r.places.items) };
 }
 
 impl InRows {

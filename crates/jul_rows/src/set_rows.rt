@@ -10,7 +10,7 @@ ghost use Rattle.jul_rows.specs.Gathering.{AreMarks};
 use crate::cuts::part_of;
 use std::marker::Model;
 
-/// A set of vertices for each vertex, as `Rows::elements` gives them: the distinct targets of its row.
+/// A set of vertices for each vertex: the distinct targets of its row, as `Rows::elements` gives them.
 ///
 /// A contract sees the list of the sets, each an increasing list.
 #[derive(Drop)]

@@ -1,9 +1,10 @@
 //! The first place at which a graph is not symmetric.
 //!
-//! For each vertex `u` two tallies count the targets of its row and the sources of its in-row. A target that
-//! stands in the first more often than in the second leads one way more often than the other. Since each
-//! tally is taken back before the next vertex, the work is linear in vertices and places.
-ghost use Rattle.std.specs.Prelude.{◌≡◌, ℕ, ◌<◌, ◌≤◌, [], length, slice_index, IfOk, IfSome, IfNone, MatchOption};
+//! For each vertex two tallies count the targets of its row and the sources of its in-row. At a target
+//! that the first has more often than the second, more edges lead there than back. Since each tally is
+//! taken back before the next vertex, the work is linear in vertices and places.
+ghost use Rattle.std.specs.Prelude.{◌≡◌, ℕ, ◌<◌, ◌≤◌, [], length, slice_index};
+ghost use Rattle.std.specs.Prelude.{IfOk, IfSome, IfNone, MatchOption};
 ghost use Rattle.std.specs.List.{All};
 ghost use Rattle.jul_base.specs.Graph.{vertices, IsLawful};
 ghost use Rattle.jul_base.specs.InRows.{AreSources, in_places};
@@ -15,10 +16,10 @@ use crate::tally::Counts;
 use std::alloc::AllocError;
 
 impl Rows {
-    /// The first asymmetric place: the least one, from some `u` to some `w`, for which `w` stands in the row of
-    /// `u` more often than `u` in that of `w`. None where the graph is symmetric.
+    /// The first asymmetric place: the least one, from some `u` to some `w`, for which the row of `u` has
+    /// more entries `w` than the row of `w` has entries `u`. None exactly where the graph is symmetric.
     ///
-    /// Takes memory for the in-rows, and gives it back.
+    /// Takes the memory of `flip` and two numbers a vertex, and gives it back.
     pub fn first_asymmetry(&self) -> Result<Option<u32>, AllocError>
         ensures first { IfOk result (λ found.
             MatchOption found (IsSymmetric self.now) (IsFirstAsymmetricPlace self.now)) }
@@ -36,8 +37,8 @@ impl Rows {
     }
 }
 
-/// The first asymmetric place of `u`, where `sources` are those of its in-row. Both tallies are empty before
-/// and after.
+/// The first asymmetric place of `u`, where `sources` are those of its in-row. Both tallies are empty
+/// before and after.
 fn first_of_row(
     rows: &Rows,
     u: u32,

@@ -8,7 +8,7 @@ use std::marker::Model;
 
 /// A number for each vertex, which tells how often it stands in a list.
 ///
-/// What was counted is taken back by `uncount`, which is cheaper than a new tally where the list is short.
+/// What was counted is taken back by `uncount`, which costs less than a new tally for a short list.
 #[derive(Drop)]
 pub struct Counts {
     counts: Vec<u32>,
