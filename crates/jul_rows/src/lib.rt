@@ -16,3 +16,6 @@ mod tally;
 pub use in_rows::InRows;
 pub use out_rows::Rows;
 pub use set_rows::SetRows;
+
+#[cfg(test)]
+mod tests;
