@@ -8,3 +8,9 @@ pub mod DistanceLaws
 pub mod TentativeLaws
 pub mod Rows
 pub mod LogLaws
+pub mod PartLaws
+pub mod RowLaws
+pub mod InRowLaws
+pub mod SymmetryLaws
+pub mod SetLaws
+pub mod SmallGraphs

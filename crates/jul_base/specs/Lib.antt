@@ -10,3 +10,6 @@ pub mod Memory
 pub mod MemorySinks
 pub mod MemoryShelves
 pub mod Logs
+pub mod InRows
+pub mod Symmetry
+pub mod Sets

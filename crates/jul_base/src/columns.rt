@@ -1,6 +1,7 @@
 //! Lists of numbers that contracts see as lists.
 ghost use Rattle.std.specs.Prelude.{◌≡◌, ℕ, ◌<◌, List, length, slice_index};
 
+use std::alloc::Global;
 use std::marker::Model;
 
 /// A number for each vertex, as the distances from a source. `NONE` stands where there is no number.
@@ -64,6 +65,12 @@ impl Ids {
         ensures { result ≡ v.items }
     {
         Ids { items: v }
+    }
+
+    /// The allocator that the numbers stand on.
+    #[inline]
+    pub fn allocator(&self) -> Global {
+        *self.items.allocator()
     }
 
     #[inline]

@@ -77,8 +77,10 @@ impl Rows {
         // The target number k is that of place number k of the row, and a vertex.
         ensures target { (k : ℕ) → k < length result.now →
             slice_index result.now k ≡ target self.now (row_start self.now v + k) }
-        ensures place { (k : ℕ) → k < length result.now → IsPlaceOf self.now v (row_start self.now v + k) }
-        ensures vertex { (k : ℕ) → k < length result.now → slice_index result.now k < vertices self.now }
+        ensures place { (k : ℕ) → k < length result.now →
+            IsPlaceOf self.now v (row_start self.now v + k) }
+        ensures vertex { (k : ℕ) → k < length result.now →
+            slice_index result.now k < vertices self.now }
     {
         let start = self.first_place(v) as usize;
         let end = self.end_place(v) as usize;

@@ -1,0 +1,5 @@
+pub mod CutLaws
+pub mod FillingLaws
+pub mod TallyLaws
+pub mod BalanceLaws
+pub mod GatheringLaws

@@ -1,0 +1,4 @@
+pub mod Cuts
+pub mod Filling
+pub mod Balance
+pub mod Gathering

@@ -1,0 +1,192 @@
+//! The calls on small graphs, with answers that were worked out by hand.
+ghost use Rattle.std.specs.Prelude.{◌≡◌, ℕ, ◌+◌, ◌<◌, ◌≤◌, All, IsTrue, length, slice_index, if◌then◌else◌};
+ghost use Rattle.jul_base.specs.Graph.{vertices, places, IsLawful};
+ghost use Rattle.jul_base.specs.declared.limits.TheConstants.{MAX_N, MAX_M};
+
+use crate::{InRows, Rows, SetRows};
+use jul_base::{Ids, MAX_M, MAX_N, MAX_W, RawGraph};
+use std::alloc::Global;
+use std::process::Abort;
+use std::test::Fail;
+
+/// Whether no number is greater than the next.
+fn rises(xs: &[u32]) -> bool
+    ensures { IsTrue result → (v : ℕ) → v + 1 < length xs.now →
+        slice_index xs.now v ≤ slice_index xs.now (v + 1) }
+{
+    for i in 1..xs.len() {
+        if xs[i] < xs[i - 1] {
+            return false;
+        }
+    }
+    true
+}
+
+fn all_below(xs: &[u32], bound: usize) -> bool
+    ensures { IsTrue result → All (λ x. x < bound) xs.now }
+{
+    for x in xs {
+        if *x as usize >= bound {
+            return false;
+        }
+    }
+    true
+}
+
+fn begins_with_zero(xs: &[u32]) -> bool
+    ensures { IsTrue result → slice_index xs.now 0 ≡ 0 }
+{
+    match xs.first() {
+        Some(x) => *x == 0,
+        None => true,
+    }
+}
+
+/// Whether there are so many vertices, places and weights.
+fn sizes_fit(graph: &RawGraph) -> bool
+    ensures vertices { IsTrue result → vertices graph.now ≤ MAX_N }
+    ensures places { IsTrue result → places graph.now ≤ MAX_M }
+    ensures empty { IsTrue result → vertices graph.now ≡ 0 → places graph.now ≡ 0 }
+    ensures weights { IsTrue result →
+        length graph.now.weights ≡ (if graph.now.weighted then places graph.now else 0) }
+{
+    let n = graph.offsets.len();
+    let m = graph.targets.len();
+    if n > MAX_N as usize || m > MAX_M as usize || n == 0 && m != 0 {
+        return false;
+    }
+    if graph.weighted {
+        graph.weights.len() == m
+    } else {
+        graph.weights.len() == 0
+    }
+}
+
+/// Whether the lists are those of a lawful graph.
+fn is_lawful(graph: &RawGraph) -> bool
+    ensures { IsTrue result → IsLawful graph.now }
+{
+    if !sizes_fit(graph) {
+        return false;
+    }
+    let offsets = graph.offsets.as_slice();
+    let targets = graph.targets.as_slice();
+    if !begins_with_zero(offsets) || !rises(offsets) || !all_below(offsets, targets.len() + 1) {
+        return false;
+    }
+    if !all_below(graph.weights.as_slice(), MAX_W as usize + 1) {
+        return false;
+    }
+    all_below(targets, offsets.len())
+}
+
+/// The rows of a graph, which has no weights of its own where the last list is empty. Lists that aren't
+/// lawful end the test.
+fn rows_of(rt: &impl Abort, alloc: Global, lists: [&[u32]; 3]) -> Result<Rows, Fail> {
+    let [offsets, targets, weights] = lists;
+    let graph = RawGraph {
+        weighted: !weights.is_empty(),
+        offsets: Ids::from_vec(Vec::from_slice(alloc, offsets)?),
+        targets: Ids::from_vec(Vec::from_slice(alloc, targets)?),
+        weights: Ids::from_vec(Vec::from_slice(alloc, weights)?),
+    };
+    assert!(rt; is_lawful(&graph));
+    Ok(Rows::of(graph))
+}
+
+/// The rows of the given lists, without weights.
+fn plain(rt: &impl Abort, alloc: Global, offsets: &[u32], targets: &[u32]) -> Result<Rows, Fail> {
+    rows_of(rt, alloc, [offsets, targets, &[]])
+}
+
+fn row_is(rows: &Rows, v: u32, first: u32, row: &[u32]) -> bool {
+    v < rows.n()
+        && rows.first_place(v) == first
+        && rows.degree(v) as usize == row.len()
+        && rows.row(v) == row
+}
+
+fn weight_is(rows: &Rows, place: u32, weight: u32) -> bool {
+    place < rows.m() && rows.weight(place) == weight
+}
+
+fn in_row_is(in_rows: &InRows, v: u32, sources: &[u32], places: &[u32]) -> bool {
+    v < in_rows.n() && in_rows.sources(v) == sources && in_rows.places(v) == places
+}
+
+fn set_is(sets: &SetRows, s: u32, set: &[u32]) -> bool {
+    s < sets.n() && sets.set(s) == set
+}
+
+fn is_element(sets: &SetRows, v: u32) -> bool {
+    v < sets.n() && sets.is_element(v)
+}
+
+#[test]
+fn rows_are_read_in_file_order(rt: HostRuntime) -> Result<(), Fail> {
+    let rows = rows_of(
+        &rt,
+        rt.alloc(),
+        [&[0, 2, 3, 4], &[2, 1, 3, 1], &[9, 1, 5, 6]],
+    )?;
+    assert!(rt; row_is(&rows, 0, 0, &[2, 1]) && row_is(&rows, 3, 4, &[]));
+    assert!(rt; weight_is(&rows, 3, 6));
+    assert!(rt; weight_is(&plain(&rt, rt.alloc(), &[0], &[0])?, 0, 1));
+    Ok(())
+}
+
+#[test]
+fn places_come_back_to_their_targets(rt: HostRuntime) -> Result<(), Fail> {
+    let rows = rows_of(
+        &rt,
+        rt.alloc(),
+        [&[0, 2, 3, 4], &[1, 2, 3, 1], &[9, 1, 5, 6]],
+    )?;
+    let in_rows = rows.flip()?;
+    assert!(rt; in_row_is(&in_rows, 1, &[0, 2], &[0, 3]));
+    assert!(rt; in_row_is(&in_rows, 0, &[], &[]));
+    Ok(())
+}
+
+#[test]
+fn repeats_and_self_edges_come_back_too(rt: HostRuntime) -> Result<(), Fail> {
+    let in_rows = plain(&rt, rt.alloc(), &[0, 3], &[1, 0, 1, 0, 0])?.flip()?;
+    assert!(rt; in_row_is(&in_rows, 0, &[0, 1, 1], &[1, 3, 4]));
+    assert!(rt; in_row_is(&in_rows, 1, &[0, 0], &[0, 2]));
+    Ok(())
+}
+
+#[test]
+fn the_least_asymmetric_place_is_named(rt: HostRuntime) -> Result<(), Fail> {
+    let cases: [(&[u32], &[u32], Option<u32>); 6] = [
+        (&[0, 1], &[1], Some(0)),
+        (&[0, 2, 4, 7], &[1, 2, 0, 2, 0, 1, 3, 2], None),
+        (&[], &[], None),
+        // Both places there are asymmetric, since there is one back.
+        (&[0, 3], &[0, 1, 1, 0], Some(1)),
+        (&[0, 1], &[1, 0, 0], Some(1)),
+        (&[0], &[0, 0], None),
+    ];
+    for (offsets, targets, wanted) in cases {
+        let rows = plain(&rt, rt.alloc(), offsets, targets)?;
+        assert_eq!(rt; rows.first_asymmetry()?, wanted);
+    }
+    Ok(())
+}
+
+#[test]
+fn repeats_are_one_element(rt: HostRuntime) -> Result<(), Fail> {
+    let sets = plain(&rt, rt.alloc(), &[0, 2], &[1, 1, 0, 0])?.elements()?;
+    assert!(rt; set_is(&sets, 0, &[1]) && set_is(&sets, 1, &[0]));
+    assert!(rt; is_element(&sets, 0) && is_element(&sets, 1));
+    Ok(())
+}
+
+#[test]
+fn sets_are_in_order(rt: HostRuntime) -> Result<(), Fail> {
+    let sets = plain(&rt, rt.alloc(), &[0, 2, 4, 4, 4], &[2, 3, 3, 4])?.elements()?;
+    assert!(rt; set_is(&sets, 0, &[2, 3]) && !is_element(&sets, 0));
+    let mixed = plain(&rt, rt.alloc(), &[0, 3, 3, 3], &[3, 0, 3])?.elements()?;
+    assert!(rt; set_is(&mixed, 0, &[0, 3]) && is_element(&mixed, 0));
+    Ok(())
+}
