@@ -1,0 +1,83 @@
+-- Each step keeps the rule of a table, if what the words mean outlives it.
+use Rattle.std.proofs.Common.{◌≡◌, ℕ, ◌<◌, true, false, List, [], ◌∷◌, ◌++◌, sym, ap, subst, arith}
+use Rattle.std.specs.Prelude.{slice_index, slice_set}
+use Rattle.std.proofs.lemmas.List.{set-get_or}
+use mathlib.Core.Option.{some}
+use lib.ListN.{get_elem?}
+use Rattle.atomic_table.specs.Table.{keeps, Allows, Splits, Joins, opening}
+use Rattle.atomic_table.proofs.Lists.{set_again}
+use Rattle.jul_base.specs.Logs.{Entry, Home}
+use Rattle.jul_words.specs.Weights.{HasSameEntries}
+use Rattle.jul_words.specs.Seats.{Seat, home, rooted, beside, logs, lent, joined, named, IsAlone}
+use Rattle.jul_words.specs.Views.{View, lives, spent, Kin}
+use Rattle.jul_words.specs.Ruled.{Meaning, Ruled, Knows, Words, Sat}
+use Rattle.jul_words.proofs.Sums.{weigh-append}
+use Rattle.jul_words.proofs.Kinship.{begins, homely, own_le, adds, alone, forks, merges}
+
+-- what the seat finds when it reads a word: the words, all views, and the history
+pub record Found (R : Meaning) (id : ℕ) (me : View) (words : List ℕ) (views : List View) (history : List Entry) : Type 0 where
+  pub holds : R me.seat.home words history
+  pub kin : Kin me.seat.home views history
+  pub mine : get_elem? views id ≡ some me
+  pub knows : Knows me.seat history
+
+module _ (R : Meaning) (starts : List ℕ) where
+  abbrev pub Rule : Words → Type 0
+  Rule s = Ruled R starts s.words s.views
+
+  -- the floors begin as the starts
+  pub opens : (words : List ℕ) (xs : List (Unit {0})) → R (home [] starts starts) words [] → Rule (opening words xs (lives (rooted (home [] starts starts))))
+  opens words xs holds = record { floors = starts; history = []; kin = begins (home [] starts starts); holds = holds }
+
+  pub splits : (id : ℕ) (v : View) → v.live ≡ true → v.seat.root ≡ true → Splits Rule id v (lives (lent v.seat)) (lives (beside v.seat))
+  splits id v live root s r at = record { floors = r.floors; history = r.history; kin = forks _ s.views r.history r.kin id v at live root; holds = r.holds }
+
+  pub joins : (id : ℕ) (v : View) (other : ℕ) (u : View) → v.live ≡ true → v.seat.root ≡ true → 0 < v.seat.out → u.live ≡ true → u.seat.root ≡ false → Joins Rule id v other u (lives (joined v.seat u.seat)) spent
+  joins id v other u live root out u_live seat s r at apart there = record { floors = r.floors; history = r.history; kin = merges _ s.views r.history r.kin id v at live other u root out u_live seat apart there; holds = r.holds }
+
+  module _ (slots id : ℕ) (me : Sat) (live : me.0.live ≡ true) where
+    pub known : (s : Words) (r : Rule s) → get_elem? s.views id ≡ some me.0 → Knows me.0.seat r.history
+    known s r at = record { own = own_le _ s.views r.history r.kin id me.0 at live; whole = alone _ s.views r.history r.kin id me.0 at live }
+
+    at_home : (s : Words) (r : Rule s) → get_elem? s.views id ≡ some me.0 → me.0.seat.home ≡ home [] starts r.floors
+    at_home s r at = homely _ s.views r.history r.kin id me.0 at live
+
+    found : (s : Words) (r : Rule s) → get_elem? s.views id ≡ some me.0 → Found R id me.0 s.words s.views r.history
+    found s r at = let is = sym (at_home s r at) in record {
+      holds = subst (λ g. R g s.words r.history) is r.holds;
+      kin = subst (λ g. Kin g s.views r.history) is r.kin;
+      mine = at;
+      knows = known s r at;
+    }
+
+    -- a step that logs nothing and leaves the words
+    pub looks : (i : ℕ) (then : ℕ → Sat → Type 0)
+        → ((words : List ℕ) (views : List View) (history : List Entry) → Found R id me.0 words views history → then (slice_index words i) me)
+        → Allows Rule slots id me i (λ n. n) then
+    looks i then tell s r sizes at fits =
+        let W : List ℕ × List View → Type 0 = λ p. Ruled R starts p.0 p.1 in (
+          me.0,
+          keeps,
+          tt,
+          subst W (λ t. (sym (set-get_or s.words i 0) t, sym (set_again s.views id me.0 at) t)) r,
+          tell s.words s.views r.history (found s r at),
+        )
+
+    -- a step that makes the word f of what it was, and logs the entry e of it
+    pub makes : (i : ℕ) (f : ℕ → ℕ) (e : ℕ → Entry) (then : ℕ → Sat → Type 0)
+        → ((words : List ℕ) (views : List View) (history : List Entry) → Found R id me.0 words views history
+        → R me.0.seat.home (slice_set words i (f (slice_index words i))) (e (slice_index words i) ∷ history) × then (slice_index words i) (lives (logs me.0.seat (e (slice_index words i))), me.1))
+        → Allows Rule slots id me i f then
+    makes i f e then keep s r sizes at fits =
+        let n = slice_index s.words i in let is = at_home s r at in
+        let k = keep s.words s.views r.history (found s r at) in (
+          lives (logs me.0.seat (e n)),
+          keeps,
+          tt,
+          record { floors = r.floors; history = e n ∷ r.history; kin = adds _ s.views r.history r.kin id me.0 at live (e n); holds = subst (λ g. R g (slice_set s.words i (f n)) (e n ∷ r.history)) is k.0 },
+          k.1,
+        )
+
+-- after its own entry too the root with none out has the whole history
+pub one_more : (s : Seat) (history : List Entry) (e : Entry) → Knows s history → IsAlone s → HasSameEntries (s.log ++ e ∷ []) (e ∷ history)
+one_more s history e k a f = omega (arith, k.whole a f, weigh-append f s.log (e ∷ []))

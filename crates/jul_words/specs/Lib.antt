@@ -1,0 +1,6 @@
+pub mod Seats
+pub mod Weights
+pub mod Views
+pub mod Ruled
+pub mod Marks
+pub mod Least

@@ -1,0 +1,30 @@
+-- The rule of a table of words, by what its words mean.
+use Rattle.std.specs.Prelude.{◌≡◌, ℕ, ◌≤◌, List, []}
+use Rattle.atomic_table.specs.Table.{State, Me, Step}
+use Rattle.jul_base.specs.Logs.{Entry, Home}
+use Rattle.jul_words.specs.Weights.{weigh, HasSameEntries}
+use Rattle.jul_words.specs.Seats.{Seat, IsAlone, home}
+use Rattle.jul_words.specs.Views.{View, Kin}
+
+-- what the words of a home mean after a history, whose newest entry stands first
+abbrev pub Meaning : Type 1
+Meaning = Home → List ℕ → List Entry → Type 0
+
+-- the words mean a history, which is that of the live views
+pub record Ruled (R : Meaning) (starts : List ℕ) (words : List ℕ) (views : List View) : Type 0 where
+  pub floors : List ℕ
+  pub history : List Entry
+  pub kin : Kin (home [] starts floors) views history
+  pub holds : R (home [] starts floors) words history
+
+-- what a seat knows of the history
+pub record Knows (s : Seat) (history : List Entry) : Type 0 where
+  pub own : (f : Entry → ℕ) → weigh f s.log ≤ weigh f history
+  pub whole : IsAlone s → HasSameEntries s.log history
+
+abbrev pub Words : Type 0
+Words = State (Unit {0}) View
+
+-- a view, and the slots that a seat holds, which are none
+abbrev pub Sat : Type 0
+Sat = Me (Unit {0}) View

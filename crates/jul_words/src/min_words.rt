@@ -1,0 +1,149 @@
+//! Words that are lowered, each by one fetch-min.
+ghost use Rattle.std.specs.Prelude.{◌≡◌, ℕ, ◌+◌, ◌<◌, ◌≤◌, List, [], length, slice_index, drop, replicate, true, false, IfOk};
+ghost use Rattle.jul_base.specs.declared.limits.TheConstants.{MAX_N};
+ghost use Rattle.jul_words.specs.Seats.{IsSeatOf, IsWord, IsAlone, AtMoment, home, rooted, beside, lent, joined, logs, with_floors, floor_of};
+ghost use Rattle.jul_words.specs.Least.{IsLeast, IsSettled, MinWordsRule, Loads, Lowers, TakesFloors, lowering, word_by};
+
+use crate::floors::Floors;
+use crate::tables::{Meaning, WordSeat, Words};
+use crate::views::View;
+use atomic_table::Play;
+use std::alloc::{AllocError, Global};
+use std::marker::{Brand, PhantomData};
+
+/// Each word is the least of its start and of the numbers offered for its vertex.
+pub struct Least;
+
+impl Meaning for Least {
+    ghost holds = { IsLeast };
+}
+
+/// A table of words that are lowered.
+pub type MinWords = Words<Least>;
+
+/// A seat of a table of words that are lowered.
+pub type MinSeat = WordSeat<Least>;
+
+struct Load;
+
+impl Play<(), View> for Load {
+    ghost then = { Loads };
+}
+
+struct Lower;
+
+impl Play<(), View> for Lower {
+    ghost then = { Lowers };
+}
+
+// Floors that a step takes, and no argument of the step has.
+trait Low {
+    ghost floors: { List ℕ };
+}
+
+impl Low for Brand {
+    ghost floors = { [] };
+}
+
+struct TakeFloors<B: Low> {
+    marker: PhantomData<B>,
+}
+
+impl<B: Low> Play<(), View> for TakeFloors<B> {
+    ghost then = { TakesFloors B.floors };
+}
+
+impl Words<Least> {
+    /// A table with a word for each start, and its root seat.
+    ///
+    /// Each floor is at most its start. Memory that runs out is the only refusal.
+    pub fn open<F: Floors>(
+        alloc: Global,
+        start: &[u64],
+        floors: &F,
+    ) -> Result<(MinWords, MinSeat), AllocError>
+        requires count { length start.now ≤ MAX_N }
+        requires as_many { length (F.numbers floors.now) ≡ length start.now }
+        requires below { (v : ℕ) → v < length start.now → slice_index (F.numbers floors.now) v ≤ slice_index start.now v }
+        ensures { IfOk result (λ r. r.1 ≡ rooted (home r.0 start.now (F.numbers floors.now))) }
+    {
+        let mut words = Vec::with_capacity(alloc, start.len() + 1)?;
+        words.push_reserved(0);
+        words.extend_from_slice(start)?;
+        let (table, mut seat) = Words::begin(alloc, &words)?;
+        table.take_floors::<F, Brand>(&mut seat, floors);
+        Ok((table, seat))
+    }
+
+    // The root, which is alone and has logged nothing, takes the floors at a load of word 0.
+    fn take_floors<F: Floors, B: Low>(&self, seat: &mut MinSeat, floors: &F)
+        requires seat { IsSeatOf self.now seat.old }
+        requires alone { IsAlone seat.old }
+        requires empty { seat.old.log ≡ [] }
+        requires picked { F.numbers floors.now ≡ B.floors }
+        requires below { (v : ℕ) → v < length seat.old.home.starts → slice_index (F.numbers floors.now) v ≤ slice_index seat.old.home.starts v }
+        ensures { seat.new ≡ with_floors seat.old (F.numbers floors.now) }
+    {
+        let _ = floors;
+        let words = &self.table.shared;
+        words.load::<TakeFloors<B>>(&mut seat.seat, 0);
+    }
+
+    /// The word of `v`. One load.
+    pub fn load(&self, seat: &mut MinSeat, v: u32) -> u64
+        requires seat { IsSeatOf self.now seat.old }
+        requires word { IsWord seat.old v }
+        ensures same { seat.new ≡ seat.old }
+        ensures floor { floor_of seat.old.home v ≤ result }
+        ensures most { result ≤ word_by seat.old.home seat.old.log v }
+        ensures exact { IsAlone seat.old → result ≡ word_by seat.old.home seat.old.log v }
+        ensures settled { IsAlone seat.new → IsSettled seat.new.home seat.new.log }
+        ensures moment { AtMoment MinWordsRule seat.old v result }
+    {
+        let words = &self.table.shared;
+        words.load::<Load>(&mut seat.seat, v as usize + 1)
+    }
+
+    /// Lowers the word of `v` to `c` where it is greater, and answers what it was. One fetch-min.
+    pub fn lower(&self, seat: &mut MinSeat, v: u32, c: u64) -> u64
+        requires seat { IsSeatOf self.now seat.old }
+        requires word { IsWord seat.old v }
+        requires not_below { floor_of seat.old.home v ≤ c }
+        ensures logged { seat.new ≡ logs seat.old (lowering v c result) }
+        ensures floor { floor_of seat.old.home v ≤ result }
+        ensures most { result ≤ word_by seat.old.home seat.old.log v }
+        ensures exact { IsAlone seat.old → result ≡ word_by seat.old.home seat.old.log v }
+        ensures settled { IsAlone seat.new → IsSettled seat.new.home seat.new.log }
+        ensures moment { AtMoment MinWordsRule seat.old v result }
+    {
+        let words = &self.table.shared;
+        words.fetch_min::<Lower>(&mut seat.seat, v as usize + 1, c)
+    }
+
+    /// A seat of the same table with an empty log, for another thread. Only the root is split.
+    pub fn split(&self, seat: &mut MinSeat) -> MinSeat
+        requires seat { IsSeatOf self.now seat.old }
+        requires root { seat.old.root ≡ true }
+        requires room { seat.old.out < 65536 }
+        ensures root { seat.new ≡ lent seat.old }
+        ensures part { result ≡ beside seat.old }
+    {
+        self.part_off(seat)
+    }
+
+    /// The other seat's log follows that of the root, and one seat fewer is out.
+    pub fn join(&self, seat: &mut MinSeat, other: MinSeat)
+        requires seat { IsSeatOf self.now seat.old }
+        requires kin { other.home ≡ seat.old.home }
+        requires root { seat.old.root ≡ true }
+        requires some_out { 0 < seat.old.out }
+        requires part { other.root ≡ false }
+        ensures joined { seat.new ≡ joined seat.old other }
+        ensures settled { IsAlone seat.new → IsSettled seat.new.home seat.new.log }
+    {
+        self.take_in(seat, other);
+        let words = &self.table.shared;
+        // A join tells nothing of the words. This load does, once no seat is out.
+        words.load::<Load>(&mut seat.seat, 0);
+    }
+}

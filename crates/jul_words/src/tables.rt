@@ -1,0 +1,134 @@
+//! A table of words and its seats, whatever the words mean.
+//!
+//! Word 0 belongs to the table: splits and joins load it. The word of vertex `v` is word `v + 1`.
+ghost use Rattle.std.specs.Prelude.{◌≡◌, ℕ, ◌+◌, ◌<◌, ◌≤◌, List, [], ◌∷◌, true, false, length, drop, IfOk};
+ghost use Rattle.jul_words.specs.Seats.{IsSeatOf, home, rooted, beside, lent, joined};
+ghost use Rattle.jul_words.specs.Views.{lives, spent};
+ghost use Rattle.jul_words.specs.Ruled.{Ruled};
+
+use crate::views::View;
+use atomic_table::{Join, Seat, Split, Table, TableRule};
+use std::alloc::{AllocError, Global};
+use std::marker::{Model, PhantomData};
+use std::snapshot::Snapshot;
+
+/// What the words of a table mean.
+pub trait Meaning {
+    ghost use Rattle.std.specs.Prelude.{ℕ, List};
+    ghost use Rattle.jul_base.specs.Logs.{Entry, Home};
+
+    // Of the home, the words and the history, whose newest entry stands first.
+    ghost holds: { Home → List ℕ → List Entry → Type 0 };
+}
+
+// The words at the start, of which the first is the table's own. It has no bytes.
+pub type Key = Snapshot<Vec<u64>>;
+
+pub struct Logged<P: Meaning> {
+    marker: PhantomData<P>,
+}
+
+impl<P: Meaning> TableRule<(), View, Key> for Logged<P> {
+    ghost holds = { λ key s. Ruled P.holds (drop 1 key.value.items) s.words s.views };
+
+    ghost first = { λ key. lives (rooted (home [] (drop 1 key.value.items) (drop 1 key.value.items))) };
+}
+
+struct Kindred;
+
+impl Split<View> for Kindred {
+    ghost left = { λ v. lives (lent v.seat) };
+
+    ghost right = { λ v. lives (beside v.seat) };
+}
+
+impl Join<View> for Kindred {
+    ghost both = { λ v w. lives (joined v.seat w.seat) };
+
+    ghost spent = { spent };
+}
+
+/// A table. Contracts see the numbers that no two tables share.
+#[derive(Drop)]
+pub struct Words<P: Meaning> {
+    pub(crate) table: Table<(), View, Key, Logged<P>, Global>,
+}
+
+impl<P: Meaning> Model for Words<P> {
+    ghost use Rattle.std.specs.Prelude.{ℕ, List};
+    ghost use Rattle.jul_words.specs.Seats.{name_of};
+
+    ghost Value = { List ℕ };
+
+    ghost view = { λ words. name_of words.table.shared.table_id };
+}
+
+/// A seat of a table, through which one thread makes steps. It has no bytes.
+#[derive(Drop)]
+pub struct WordSeat<P: Meaning> {
+    pub(crate) seat: Seat<(), View>,
+    marker: PhantomData<P>,
+}
+
+impl<P: Meaning> Model for WordSeat<P> {
+    ghost use Rattle.std.specs.Prelude.{◌≡◌, ◌+◌, [], true, length};
+    ghost use Rattle.jul_words.specs.Seats.{Seat, named, name_of};
+
+    ghost Value = { Seat };
+
+    ghost view = { λ s. named (name_of s.seat.table_id) s.seat.me.0.seat };
+
+    ghost invariant = { λ s. (s.seat.me.1 ≡ []) × (s.seat.me.0.live ≡ true) × (s.seat.table_id.words ≡ length s.seat.me.0.seat.home.starts + 1) };
+}
+
+impl<P: Meaning> Words<P> {
+    /// A table of these words, of which the first is the table's own, and its root seat. The floors are the starts.
+    pub(crate) fn begin(
+        alloc: Global,
+        words: &Vec<u64>,
+    ) -> Result<(Words<P>, WordSeat<P>), AllocError>
+        requires some { 0 < length words.now.items }
+        requires holds { P.holds (home [] (drop 1 words.now.items) (drop 1 words.now.items)) words.now.items [] }
+        ensures { IfOk result (λ r. r.1 ≡ rooted (home r.0 (drop 1 words.now.items) (drop 1 words.now.items))) }
+    {
+        let key = Snapshot::of(words);
+        let (table, seat) = Table::of_words(alloc, words.as_slice(), &key)?;
+        Ok((
+            Words { table },
+            WordSeat {
+                seat,
+                marker: PhantomData,
+            },
+        ))
+    }
+
+    /// A seat of the root's home with an empty log. One load of word 0.
+    pub(crate) fn part_off(&self, seat: &mut WordSeat<P>) -> WordSeat<P>
+        requires seat { IsSeatOf self.now seat.old }
+        requires root { seat.old.root ≡ true }
+        ensures root { seat.new ≡ lent seat.old }
+        ensures part { result ≡ beside seat.old }
+    {
+        let other = self.table.shared.split_seat::<Kindred>(&mut seat.seat);
+        WordSeat {
+            seat: other,
+            marker: PhantomData,
+        }
+    }
+
+    /// The other seat's log follows that of the root. One load of word 0.
+    pub(crate) fn take_in(&self, seat: &mut WordSeat<P>, other: WordSeat<P>)
+        requires seat { IsSeatOf self.now seat.old }
+        requires kin { other.home ≡ seat.old.home }
+        requires root { (seat.old.root ≡ true) × (0 < seat.old.out) }
+        requires part { other.root ≡ false }
+        ensures { seat.new ≡ joined seat.old other }
+    {
+        let WordSeat {
+            seat: other,
+            marker: _,
+        } = other;
+        let words = &self.table.shared;
+        words.join_seat::<Kindred>(&mut seat.seat, other);
+    }
+}
