@@ -6,3 +6,7 @@ pub mod Names
 pub mod Marking
 pub mod Minima
 pub mod Lowering
+pub mod Tallies
+pub mod Counting
+pub mod Maxima
+pub mod Stamping

@@ -6,16 +6,16 @@ use Rattle.std.proofs.lemmas.List.{length-set, get_or-set_same, get_or-set_other
 use mathlib.Core.Option.{none}
 use Rattle.atomic_table.specs.Table.{step, keeps, Allows}
 use Rattle.jul_base.specs.Logs.{Entry, Home}
-use Rattle.jul_words.specs.Weights.{weigh}
-use Rattle.jul_words.specs.Seats.{Seat, home, logs, named, with_floors, all_entries, start_of, floor_of, AtMoment, IsAlone}
+use Rattle.jul_words.specs.Weights.{weigh, HasSameEntries}
+use Rattle.jul_words.specs.Seats.{Seat, home, named, with_floors, all_entries, start_of, floor_of, AtMoment, IsAlone}
 use Rattle.jul_words.specs.Views.{View, lives, spent, Kin}
 use Rattle.jul_words.specs.Ruled.{Sat}
-use Rattle.jul_words.specs.Least.{IsLeast, MinWordsRule, Tells, Loads, Lowers, TakesFloors, word_by, lowering}
+use Rattle.jul_words.specs.Least.{IsLeast, MinWordsRule, IsSettled, Tells, Loads, Lowers, TakesFloors, word_by, lowering}
 use Rattle.jul_words.proofs.Sums.{weigh-nothing}
 use Rattle.jul_words.proofs.Kinship.{homely, moves}
 use Rattle.jul_words.proofs.Living.{word_after_one, others, others_entries, others_kin}
 use Rattle.jul_words.proofs.Minima.{least_here, least_else, least_more, least_same, lowers_floor, lowers_marks, marks_same, settles}
-use Rattle.jul_words.proofs.Ruling.{Rule, Found, known, looks, makes, one_more}
+use Rattle.jul_words.proofs.Ruling.{Rule, Found, known, looks_on, looks_at, logs_at}
 
 module _ (id : ℕ) (me : View) (live : me.live ≡ true) (words : List ℕ) (views : List View) (history : List Entry) (at : Found IsLeast id me words views history) where
   abbrev h : Home
@@ -41,45 +41,35 @@ module _ (id : ℕ) (me : View) (live : me.live ≡ true) (words : List ℕ) (vi
       exact = λ a. w ∙ least_same k (start_of h k) me.seat.log history (at.knows.whole a);
     }
 
-    lowered : (c : ℕ) → floor_of h k ≤ c → IsLeast h (slice_set words (k + 1) (min (slice_index words (k + 1)) c)) (lowering k c (slice_index words (k + 1)) ∷ history)
-    lowered c low = let r = at.holds in let n = slice_index words (k + 1) in let e = lowering k c n in let w = r.words_are k near in record {
-      size = length-set words (k + 1) (min n c) ∙ r.size;
-      floors = r.floors;
-      words_are = λ j close. ⊎_elim
-          (λ (q : k ≡ j). subst (λ x. slice_index (set words (k + 1) (min n c)) (x + 1) ≡ word_by h (e ∷ history) x) q
-          (omega (arith, get_or-set_same words (k + 1) (min n c) 0 (omega (arith, r.size)), least_here k (start_of h k) e history refl, w)))
-          (λ (q : k ≢ j). omega (arith, get_or-set_other words (k + 1) (j + 1) (min n c) 0 (λ z. q (omega arith)), least_else j (start_of h j) e history q, r.words_are j close))
-          (cases_eq k j);
-      legal = (ap (lowering k c) w, low, r.legal);
-    }
+-- a word that is lowered to c is the least with c among what was logged
+lowered : (h : Home) (words : List ℕ) (history : List Entry) → IsLeast h words history → (k : ℕ) → k < length h.starts → (c : ℕ) → floor_of h k ≤ c → IsLeast h (slice_set words (k + 1) (min (slice_index words (k + 1)) c)) (lowering k c (slice_index words (k + 1)) ∷ history)
+lowered h words history r k near c low = let n = slice_index words (k + 1) in let e = lowering k c n in let w = r.words_are k near in record {
+  size = length-set words (k + 1) (min n c) ∙ r.size;
+  floors = r.floors;
+  words_are = λ j close. ⊎_elim
+      (λ (q : k ≡ j). subst (λ x. slice_index (set words (k + 1) (min n c)) (x + 1) ≡ word_by h (e ∷ history) x) q
+      (omega (arith, get_or-set_same words (k + 1) (min n c) 0 (omega (arith, r.size)), least_here k (start_of h k) e history refl, w)))
+      (λ (q : k ≢ j). omega (arith, get_or-set_other words (k + 1) (j + 1) (min n c) 0 (λ z. q (omega arith)), least_else j (start_of h j) e history q, r.words_are j close))
+      (cases_eq k j);
+  legal = (ap (lowering k c) w, low, r.legal);
+}
 
 module _ (starts : List ℕ) (slots id : ℕ) (me : Sat) (live : me.0.live ≡ true) where
-  -- a load of the table's own word tells the root with none out that its log is settled
-  pub looks_on : Allows (Rule IsLeast starts) slots id me 0 (λ n. n) (Loads (step slots 0 0 0 none) me)
-  looks_on = looks IsLeast starts slots id me live 0 (Loads (step slots 0 0 0 none) me) (λ words views history at. record {
-    same = refl;
-    tells = λ j q. absurd (omega arith);
-    settled = λ a. settles me.0.seat.home words history me.0.seat.log at.holds (at.knows.whole a);
-  })
+  settled : (words : List ℕ) (history log : List Entry) → IsLeast me.0.seat.home words history → HasSameEntries log history → IsSettled me.0.seat.home log
+  settled = settles me.0.seat.home
+
+  pub looks : Allows (Rule IsLeast starts) slots id me 0 (λ n. n) (Loads (step slots 0 0 0 none) me)
+  looks = looks_on IsLeast starts slots id me live Tells IsSettled settled
 
   module _ (k : ℕ) (near : k < length me.0.seat.home.starts) where
+    told_at : (words : List ℕ) (views : List View) (history : List Entry) → Found IsLeast id me.0 words views history → Tells me.0.seat k (slice_index words (k + 1))
+    told_at words views history here = told id me.0 live words views history here k near
+
     pub loads : Allows (Rule IsLeast starts) slots id me (k + 1) (λ n. n) (Loads (step slots (k + 1) 0 0 none) me)
-    loads = looks IsLeast starts slots id me live (k + 1) (Loads (step slots (k + 1) 0 0 none) me) (λ words views history at. record {
-      same = refl;
-      tells = λ j q. let z : k ≡ j = omega arith in subst (λ x. Tells me.0.seat x (slice_index words (k + 1))) z (told id me.0 live words views history at k near);
-      settled = λ a. settles me.0.seat.home words history me.0.seat.log at.holds (at.knows.whole a);
-    })
+    loads = looks_at IsLeast starts slots id me live Tells IsSettled settled k told_at
 
     pub lowers : (c : ℕ) → floor_of me.0.seat.home k ≤ c → Allows (Rule IsLeast starts) slots id me (k + 1) (λ n. min n c) (Lowers (step slots (k + 1) c 0 none) me)
-    lowers c low = makes IsLeast starts slots id me live (k + 1) (λ n. min n c) (lowering k c) (Lowers (step slots (k + 1) c 0 none) me) (λ words views history at.
-        let n = slice_index words (k + 1) in let after = lowered id me.0 live words views history at k near c low in (
-          after,
-          record {
-            logged = λ j q. let z : k ≡ j = omega arith in ap (λ x. (lives (logs me.0.seat (lowering x c n)), me.1)) z;
-            tells = λ j q. let z : k ≡ j = omega arith in subst (λ x. Tells me.0.seat x n) z (told id me.0 live words views history at k near);
-            settled = λ a. settles me.0.seat.home _ _ _ after (one_more me.0.seat history (lowering k c n) at.knows a);
-          },
-        ))
+    lowers c low = logs_at IsLeast starts slots id me live Tells IsSettled settled k told_at c (λ n. min n c) (λ st v n. lowering v st.first n) (λ words history r. lowered me.0.seat.home words history r k near c low)
 
 -- the root with none out and an empty log takes other floors, none of which is above its start
 module _ (starts : List ℕ) (slots id : ℕ) (me : Sat) (live : me.0.live ≡ true) (alone : IsAlone me.0.seat) (empty : me.0.seat.log ≡ []) (floors : List ℕ) where

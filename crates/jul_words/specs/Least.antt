@@ -3,9 +3,9 @@ use Rattle.std.specs.Prelude.{◌≡◌, ℕ, ◌+◌, ◌<◌, ◌≤◌, List,
 use Rattle.atomic_table.specs.Table.{Step}
 use Rattle.jul_base.specs.Logs.{Entry, Home, LOWER}
 use Rattle.jul_words.specs.Weights.{counted}
-use Rattle.jul_words.specs.Seats.{Seat, IsAlone, AreKin, AtMoment, start_of, floor_of, entry, logs, named, with_floors, all_entries}
+use Rattle.jul_words.specs.Seats.{Seat, IsAlone, AreKin, AtMoment, start_of, floor_of, entry, named, with_floors, all_entries}
 use Rattle.jul_words.specs.Views.{View, lives}
-use Rattle.jul_words.specs.Ruled.{Sat}
+use Rattle.jul_words.specs.Ruled.{Sat, Looks, Logs}
 use Rattle.jul_words.specs.Marks.{marks}
 
 -- the least of the start and of the numbers logged for v
@@ -57,16 +57,11 @@ pub record Tells (s : Seat) (v n : ℕ) : Type 0 where
   pub most : n ≤ word_by s.home s.log v
   pub exact : IsAlone s → n ≡ word_by s.home s.log v
 
--- the steps of `load` and `lower`: the word, the seat before, the number found, the seat after
-pub record Loads (st : Step (Unit {0})) (m : Sat) (n : ℕ) (w : Sat) : Type 0 where
-  pub same : w ≡ m
-  pub tells : (v : ℕ) → st.word ≡ v + 1 → Tells m.0.seat v n
-  pub settled : IsAlone m.0.seat → IsSettled m.0.seat.home m.0.seat.log
+abbrev pub Loads : Step (Unit {0}) → Sat → ℕ → Sat → Type 0
+Loads = Looks Tells IsSettled
 
-pub record Lowers (st : Step (Unit {0})) (m : Sat) (n : ℕ) (w : Sat) : Type 0 where
-  pub logged : (v : ℕ) → st.word ≡ v + 1 → w ≡ (lives (logs m.0.seat (lowering v st.first n)), m.1)
-  pub tells : (v : ℕ) → st.word ≡ v + 1 → Tells m.0.seat v n
-  pub settled : IsAlone w.0.seat → IsSettled w.0.seat.home w.0.seat.log
+abbrev pub Lowers : Step (Unit {0}) → Sat → ℕ → Sat → Type 0
+Lowers = Logs (λ st v n. lowering v st.first n) Tells IsSettled
 
 -- the step by which the root takes the floors
 abbrev pub TakesFloors : List ℕ → Step (Unit {0}) → Sat → ℕ → Sat → Type 0

@@ -4,3 +4,5 @@ pub mod Views
 pub mod Ruled
 pub mod Marks
 pub mod Least
+pub mod Counts
+pub mod Stamps

@@ -1,10 +1,10 @@
 -- The rule of a table of words, by what its words mean.
-use Rattle.std.specs.Prelude.{◌≡◌, ℕ, ◌≤◌, List, []}
+use Rattle.std.specs.Prelude.{◌≡◌, ℕ, ◌+◌, ◌≤◌, List, []}
 use Rattle.atomic_table.specs.Table.{State, Me, Step}
 use Rattle.jul_base.specs.Logs.{Entry, Home}
 use Rattle.jul_words.specs.Weights.{weigh, HasSameEntries}
-use Rattle.jul_words.specs.Seats.{Seat, IsAlone, home}
-use Rattle.jul_words.specs.Views.{View, Kin}
+use Rattle.jul_words.specs.Seats.{Seat, IsAlone, home, logs}
+use Rattle.jul_words.specs.Views.{View, lives, Kin}
 
 -- what the words of a home mean after a history, whose newest entry stands first
 abbrev pub Meaning : Type 1
@@ -28,3 +28,15 @@ Words = State (Unit {0}) View
 -- a view, and the slots that a seat holds, which are none
 abbrev pub Sat : Type 0
 Sat = Me (Unit {0}) View
+
+-- a step that leaves the word and the seat: what the number found tells of its vertex, and what the root with none out knows of its log
+pub record Looks (Tells : Seat → ℕ → ℕ → Type 0) (Settled : Home → List Entry → Type 0) (st : Step (Unit {0})) (m : Sat) (n : ℕ) (w : Sat) : Type 0 where
+  pub same : w ≡ m
+  pub tells : (v : ℕ) → st.word ≡ v + 1 → Tells m.0.seat v n
+  pub settled : IsAlone m.0.seat → Settled m.0.seat.home m.0.seat.log
+
+-- a step that logs the entry e of its operands, the vertex and the number found
+pub record Logs (e : Step (Unit {0}) → ℕ → ℕ → Entry) (Tells : Seat → ℕ → ℕ → Type 0) (Settled : Home → List Entry → Type 0) (st : Step (Unit {0})) (m : Sat) (n : ℕ) (w : Sat) : Type 0 where
+  pub logged : (v : ℕ) → st.word ≡ v + 1 → w ≡ (lives (logs m.0.seat (e st v n)), m.1)
+  pub tells : (v : ℕ) → st.word ≡ v + 1 → Tells m.0.seat v n
+  pub settled : IsAlone w.0.seat → Settled w.0.seat.home w.0.seat.log

@@ -5,10 +5,14 @@
 //! Start with `MinWords`, `CountWords` or `StampWords`.
 #![tactic(auto)]
 
+mod count_words;
 mod floors;
 mod min_words;
+mod stamp_words;
 mod tables;
 mod views;
 
+pub use count_words::{CountSeat, CountWords};
 pub use floors::{Floors, ZeroFloors};
 pub use min_words::{MinSeat, MinWords};
+pub use stamp_words::{StampSeat, StampWords};
