@@ -7,12 +7,16 @@
 
 mod count_words;
 mod floors;
+mod hands;
 mod min_words;
+mod pairs;
 mod stamp_words;
 mod tables;
 mod views;
 
 pub use count_words::{CountSeat, CountWords};
 pub use floors::{Floors, ZeroFloors};
+pub use hands::{CountHand, MinHand, StampHand};
 pub use min_words::{MinSeat, MinWords};
+pub use pairs::Both;
 pub use stamp_words::{StampSeat, StampWords};
