@@ -1,13 +1,13 @@
 -- Adding to a word and draining it keep what words mean that count.
-use Rattle.std.proofs.Common.{◌≡◌, ℕ, ◌+◌, ◌%◌, ◌^◌, ◌<◌, ◌≢◌, true, List, ◌∷◌, length, drop, set, sym, refl, ap, ◌∙◌, subst, ⊎_elim, arith}
+use Rattle.std.proofs.Common.{◌≡◌, ℕ, ◌+◌, ◌%◌, ◌^◌, ◌<◌, ◌≢◌, true, List, ◌∷◌, length, drop, set, sym, refl, ◌∙◌, subst, ⊎_elim, arith}
 use Rattle.std.specs.Prelude.{slice_index, slice_set}
 use Rattle.std.proofs.lemmas.Bool.{cases_eq}
 use Rattle.std.proofs.lemmas.List.{length-set, get_or-set_same, get_or-set_other}
 use mathlib.Core.Option.{none}
-use Rattle.atomic_table.specs.Table.{Step, step, Allows}
+use Rattle.atomic_table.specs.Table.{step, Allows}
 use Rattle.jul_base.specs.Logs.{Entry, Home}
 use Rattle.jul_words.specs.Weights.{HasSameEntries}
-use Rattle.jul_words.specs.Seats.{Seat, home, named, all_entries}
+use Rattle.jul_words.specs.Seats.{home, named, all_entries}
 use Rattle.jul_words.specs.Views.{View}
 use Rattle.jul_words.specs.Ruled.{Sat, Logs}
 use Rattle.jul_words.specs.Counts.{adding, draining, is_add, IsFew, IsTally, AreTallies, IsCount, CountWordsRule, Tells, Loads, Adds, Drains}

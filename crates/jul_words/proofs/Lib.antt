@@ -10,3 +10,4 @@ pub mod Tallies
 pub mod Counting
 pub mod Maxima
 pub mod Stamping
+pub mod Appending

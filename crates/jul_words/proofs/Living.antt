@@ -1,5 +1,5 @@
 -- The live seats of a table: their homes, how many they are, and what they logged together.
-use Rattle.std.proofs.Common.{◌≡◌, ℕ, zero, suc, ◌+◌, ◌≢◌, true, false, true≢false, List, [], ◌∷◌, ◌++◌, length, cond, drop, set, sym, refl, ap, ◌∙◌, subst, ⊎_elim, arith}
+use Rattle.std.proofs.Common.{◌≡◌, ℕ, zero, suc, ◌+◌, ◌≢◌, true, false, true≢false, List, [], ◌∷◌, length, cond, drop, set, sym, refl, ap, ◌∙◌, subst, ⊎_elim, arith}
 use Rattle.std.specs.Prelude.{All, slice_index}
 use Rattle.std.proofs.lemmas.Grind.{get_or_after_one}
 use Rattle.std.proofs.lemmas.Bool.{cases_Bool, cond-true, cond-false}

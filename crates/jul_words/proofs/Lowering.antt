@@ -7,8 +7,8 @@ use mathlib.Core.Option.{none}
 use Rattle.atomic_table.specs.Table.{step, keeps, Allows}
 use Rattle.jul_base.specs.Logs.{Entry, Home}
 use Rattle.jul_words.specs.Weights.{weigh, HasSameEntries}
-use Rattle.jul_words.specs.Seats.{Seat, home, named, with_floors, all_entries, start_of, floor_of, AtMoment, IsAlone}
-use Rattle.jul_words.specs.Views.{View, lives, spent, Kin}
+use Rattle.jul_words.specs.Seats.{home, named, with_floors, all_entries, start_of, floor_of, IsAlone}
+use Rattle.jul_words.specs.Views.{View, lives, Kin}
 use Rattle.jul_words.specs.Ruled.{Sat}
 use Rattle.jul_words.specs.Least.{IsLeast, MinWordsRule, IsSettled, Tells, Loads, Lowers, TakesFloors, word_by, lowering}
 use Rattle.jul_words.proofs.Sums.{weigh-nothing}

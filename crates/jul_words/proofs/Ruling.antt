@@ -8,7 +8,7 @@ use Rattle.atomic_table.specs.Table.{Step, step, keeps, Allows, Splits, Joins, o
 use Rattle.atomic_table.proofs.Lists.{set_again}
 use Rattle.jul_base.specs.Logs.{Entry, Home}
 use Rattle.jul_words.specs.Weights.{HasSameEntries}
-use Rattle.jul_words.specs.Seats.{Seat, home, rooted, beside, logs, lent, joined, named, IsAlone}
+use Rattle.jul_words.specs.Seats.{Seat, home, rooted, beside, logs, lent, joined, IsAlone}
 use Rattle.jul_words.specs.Views.{View, lives, spent, Kin}
 use Rattle.jul_words.specs.Ruled.{Meaning, Ruled, Knows, Words, Sat, Looks, Logs}
 use Rattle.jul_words.proofs.Sums.{weigh-append}

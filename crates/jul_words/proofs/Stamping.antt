@@ -7,13 +7,13 @@ use mathlib.Core.Option.{none}
 use Rattle.atomic_table.specs.Table.{step, Allows}
 use Rattle.jul_base.specs.Logs.{Entry, Home}
 use Rattle.jul_words.specs.Weights.{HasSameEntries}
-use Rattle.jul_words.specs.Seats.{Seat, home, named, all_entries}
+use Rattle.jul_words.specs.Seats.{home, named, all_entries}
 use Rattle.jul_words.specs.Views.{View}
 use Rattle.jul_words.specs.Ruled.{Sat}
 use Rattle.jul_words.specs.Stamps.{greatest, stamping, AllFirsts, IsGreatest, StampWordsRule, Tells, Loads, StampsOn}
 use Rattle.jul_words.proofs.Maxima.{greatest_here, greatest_else, greatest_more, greatest_same, stamped_firsts, firsts_same, settles}
 use Rattle.jul_words.proofs.Living.{word_after_one, others, others_entries, others_kin}
-use Rattle.jul_words.proofs.Ruling.{Rule, Found, looks_on, looks_at, logs_at}
+use Rattle.jul_words.proofs.Ruling.{Rule, Found, looks_on, logs_at}
 
 module _ (id : ℕ) (me : View) (live : me.live ≡ true) (words : List ℕ) (views : List View) (history : List Entry) (at : Found IsGreatest id me words views history) where
   abbrev h : Home

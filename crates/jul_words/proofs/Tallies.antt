@@ -1,10 +1,10 @@
 -- A tally depends only on which entries a log has, and each entry of `add` and of `drain` changes that of its vertex alone.
-use Rattle.std.proofs.Common.{◌≡◌, ℕ, ◌+◌, ◌%◌, ◌^◌, ◌<◌, ◌≢◌, Bool, true, false, cond, eqb, eq-eqb, ne_eqb, List, ◌∷◌, length, sym, refl, ap, ◌∙◌, subst, ⊎_elim, arith}
+use Rattle.std.proofs.Common.{◌≡◌, ℕ, ◌+◌, ◌%◌, ◌^◌, ◌<◌, ◌≢◌, Bool, true, false, cond, eqb, eq-eqb, ne_eqb, List, ◌∷◌, sym, refl, ap, ◌∙◌, subst, ⊎_elim, arith}
 use Rattle.std.specs.Prelude.{◌&&◌, nat_lt, slice_index}
 use Rattle.std.proofs.lemmas.Bool.{cases_eq, lt-ltb, and_left, and_right}
 use Rattle.std.proofs.Math.Nat.{mod-eq_of_lt}
 use Rattle.jul_base.specs.Logs.{Entry, Home}
-use Rattle.jul_words.specs.Weights.{weigh, counted, HasSameEntries}
+use Rattle.jul_words.specs.Weights.{counted, HasSameEntries}
 use Rattle.jul_words.specs.Counts.{adding, draining, is_add, is_first, drained_by, is_full, tally, IsFew, IsTally, AreTallies, IsCount}
 
 pub tally_same : (v word : ℕ) (log history : List Entry) → HasSameEntries log history → IsTally v word history → IsTally v word log

@@ -4,7 +4,7 @@ use Rattle.atomic_table.specs.Table.{Step}
 use Rattle.jul_base.specs.Logs.{Entry, Home, LOWER}
 use Rattle.jul_words.specs.Weights.{counted}
 use Rattle.jul_words.specs.Seats.{Seat, IsAlone, AreKin, AtMoment, start_of, floor_of, entry, named, with_floors, all_entries}
-use Rattle.jul_words.specs.Views.{View, lives}
+use Rattle.jul_words.specs.Views.{lives}
 use Rattle.jul_words.specs.Ruled.{Sat, Looks, Logs}
 use Rattle.jul_words.specs.Marks.{marks}
 

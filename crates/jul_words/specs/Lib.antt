@@ -6,3 +6,4 @@ pub mod Marks
 pub mod Least
 pub mod Counts
 pub mod Stamps
+pub mod Lowerings

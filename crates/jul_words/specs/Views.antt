@@ -1,10 +1,10 @@
 -- What a table keeps of its seats. A view is that of a seat, or is spent; no seat reads another's.
-use Rattle.std.specs.Prelude.{◌≡◌, ℕ, ◌+◌, List, [], ◌∷◌, ◌++◌, Bool, true, false}
+use Rattle.std.specs.Prelude.{◌≡◌, ℕ, ◌+◌, List, [], ◌∷◌, Bool, true, false}
 use mathlib.Core.Option.{some}
 use lib.ListN.{get_elem?}
 use Rattle.jul_base.specs.Logs.{Entry, Home}
 use Rattle.jul_words.specs.Weights.{counted, weigh}
-use Rattle.jul_words.specs.Seats.{Seat, home, rooted}
+use Rattle.jul_words.specs.Seats.{Seat, home}
 
 -- that of a live seat, in which the table has no name, or what is left of a seat that was joined
 pub record View : Type 0 where

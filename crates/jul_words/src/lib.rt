@@ -20,3 +20,8 @@ pub use hands::{CountHand, MinHand, StampHand};
 pub use min_words::{MinSeat, MinWords};
 pub use pairs::Both;
 pub use stamp_words::{StampSeat, StampWords};
+
+#[cfg(test)]
+mod four_threads;
+#[cfg(test)]
+mod tests;

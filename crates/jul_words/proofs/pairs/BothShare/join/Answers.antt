@@ -1,4 +1,4 @@
-use Rattle.std.proofs.Common.{◌≡◌, ◌++◌, length, sym, ◌∙◌}
+use Rattle.std.proofs.Common.{sym, ◌∙◌}
 use Rattle.jul_base.proofs.LogLaws.{followed_by-append, append-equal}
 use Rattle.jul_words.proofs.pairs.BothShare.join.Goals as goal
 
