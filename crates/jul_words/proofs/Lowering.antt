@@ -7,7 +7,7 @@ use mathlib.Core.Option.{none}
 use Rattle.atomic_table.specs.Table.{step, keeps, Allows}
 use Rattle.jul_base.specs.Logs.{Entry, Home}
 use Rattle.jul_words.specs.Weights.{weigh, HasSameEntries}
-use Rattle.jul_words.specs.Seats.{home, named, with_floors, all_entries, start_of, floor_of, IsAlone}
+use Rattle.jul_words.specs.Seats.{home, named, with_floors, all_entries, start_of, floor_of, IsAlone, AreFloorsOf}
 use Rattle.jul_words.specs.Views.{View, lives, Kin}
 use Rattle.jul_words.specs.Ruled.{Sat}
 use Rattle.jul_words.specs.Least.{IsLeast, MinWordsRule, IsSettled, Tells, Loads, Lowers, TakesFloors, word_by, lowering}
@@ -73,14 +73,14 @@ module _ (starts : List ℕ) (slots id : ℕ) (me : Sat) (live : me.0.live ≡ t
 
 -- the root with none out and an empty log takes other floors, none of which is above its start
 module _ (starts : List ℕ) (slots id : ℕ) (me : Sat) (live : me.0.live ≡ true) (alone : IsAlone me.0.seat) (empty : me.0.seat.log ≡ []) (floors : List ℕ) where
-  pub takes_floors : ((v : ℕ) → v < length me.0.seat.home.starts → slice_index floors v ≤ slice_index me.0.seat.home.starts v) → Allows (Rule IsLeast starts) slots id me 0 (λ n. n) (TakesFloors floors (step slots 0 0 0 none) me)
-  takes_floors below s r sizes at fits =
+  pub takes_floors : AreFloorsOf me.0.seat.home.starts floors → Allows (Rule IsLeast starts) slots id me 0 (λ n. n) (TakesFloors floors (step slots 0 0 0 none) me)
+  takes_floors fit s r sizes at fits =
       let old = homely _ s.views r.history r.kin id me.0 at live in let to = with_floors me.0.seat floors in
       let at_starts : me.0.seat.home.starts ≡ starts = ap (λ (h : Home). h.starts) old in
       let none : r.history ≡ [] = weigh-nothing r.history (sym ((known IsLeast starts slots id me live s r at).whole alone (λ _. 1)) ∙ ap (weigh (λ _. 1)) empty) in
       let kin : Kin (home [] starts floors) (set s.views id (lives to)) r.history = moves _ s.views r.history r.kin id me.0 at live (home [] starts floors) to alone (ap (λ (h : Home). home h.table h.starts floors) old) alone.0 alone.1 refl in
-      let low : (v : ℕ) → v < length starts → slice_index floors v ≤ slice_index starts v = subst (λ (xs : List ℕ). (v : ℕ) → v < length xs → slice_index floors v ≤ slice_index xs v) at_starts below in
-      let holds : IsLeast (home [] starts floors) s.words [] = record { size = r.holds.size; floors = low; words_are = λ v near. subst (λ log. slice_index s.words (v + 1) ≡ word_by (home [] starts floors) log v) none (r.holds.words_are v near); legal = tt } in (
+      let low = subst (λ (xs : List ℕ). AreFloorsOf xs floors) at_starts fit in
+      let holds : IsLeast (home [] starts floors) s.words [] = record { size = r.holds.size; floors = low.below; words_are = λ v near. subst (λ log. slice_index s.words (v + 1) ≡ word_by (home [] starts floors) log v) none (r.holds.words_are v near); legal = tt } in (
         lives to,
         keeps,
         tt,

@@ -1,5 +1,5 @@
 -- What contracts see of a seat, and of all live seats of a table together.
-use Rattle.std.specs.Prelude.{◌≡◌, ℕ, ◌+◌, ◌-◌, ◌<◌, List, [], ◌∷◌, ◌++◌, Bool, true, false, All, length, slice_index}
+use Rattle.std.specs.Prelude.{◌≡◌, ℕ, ◌+◌, ◌-◌, ◌<◌, ◌≤◌, List, [], ◌∷◌, ◌++◌, Bool, true, false, All, length, slice_index}
 use Rattle.atomic_table.specs.Seated.{TableId}
 use Rattle.jul_base.specs.Logs.{Entry, Home}
 
@@ -28,6 +28,11 @@ start_of h v = slice_index h.starts v
 
 abbrev pub floor_of : Home → ℕ → ℕ
 floor_of h v = slice_index h.floors v
+
+-- there is a floor for each start, and none is above it
+pub record AreFloorsOf (starts floors : List ℕ) : Type 0 where
+  pub as_many : length floors ≡ length starts
+  pub below : (v : ℕ) → v < length starts → slice_index floors v ≤ slice_index starts v
 
 abbrev pub entry : ℕ → ℕ → ℕ → ℕ → Entry
 entry kind vertex number mark = record { kind = kind; vertex = vertex; number = number; mark = mark }

@@ -23,6 +23,8 @@ pub type CountWords = Words<Count>;
 /// A seat of a table of words that count.
 pub type CountSeat = WordSeat<Count>;
 
+const _: () = prove!(size_of::<CountSeat>() == 0);
+
 struct Load;
 
 impl Play<(), View> for Load {
@@ -63,6 +65,7 @@ impl Words<Count> {
     }
 
     /// The count of `v`. One load.
+    #[inline]
     pub fn load(&self, seat: &mut CountSeat, v: u32) -> u64
         requires seat { IsSeatOf self.now seat.old }
         requires word { IsWord seat.old v }
@@ -78,6 +81,7 @@ impl Words<Count> {
     /// Adds 1 to the count of `v` on behalf of a place, and answers the old count. One fetch-add.
     ///
     /// The count is that of the adds as long as there are fewer than 2^64 of them.
+    #[inline]
     pub fn add(&self, seat: &mut CountSeat, v: u32, place: u32) -> u64
         requires seat { IsSeatOf self.now seat.old }
         requires word { IsWord seat.old v }
@@ -104,6 +108,7 @@ impl Words<Count> {
     }
 
     /// Makes the count of `v` 0, and answers what it was. One swap.
+    #[inline]
     pub fn drain(&self, seat: &mut CountSeat, v: u32) -> u64
         requires seat { IsSeatOf self.now seat.old }
         requires word { IsWord seat.old v }
@@ -117,6 +122,7 @@ impl Words<Count> {
     }
 
     /// A seat of the same table with an empty log, for another thread. Only the root is split.
+    #[inline]
     pub fn split(&self, seat: &mut CountSeat) -> CountSeat
         requires seat { IsSeatOf self.now seat.old }
         requires root { seat.old.root ≡ true }
@@ -128,6 +134,7 @@ impl Words<Count> {
     }
 
     /// The other seat's log follows that of the root, and one seat fewer is out.
+    #[inline]
     pub fn join(&self, seat: &mut CountSeat, other: CountSeat)
         requires seat { IsSeatOf self.now seat.old }
         requires kin { other.home ≡ seat.old.home }

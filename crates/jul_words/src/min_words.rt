@@ -1,7 +1,7 @@
 //! Words that are lowered, each by one fetch-min.
 ghost use Rattle.std.specs.Prelude.{◌≡◌, ℕ, ◌+◌, ◌<◌, ◌≤◌, List, [], length, slice_index, drop, replicate, true, false, IfOk};
 ghost use Rattle.jul_base.specs.declared.limits.TheConstants.{MAX_N};
-ghost use Rattle.jul_words.specs.Seats.{IsSeatOf, IsWord, IsAlone, AtMoment, home, rooted, beside, lent, joined, logs, with_floors, floor_of};
+ghost use Rattle.jul_words.specs.Seats.{IsSeatOf, IsWord, IsAlone, AtMoment, home, rooted, beside, lent, joined, logs, with_floors, floor_of, AreFloorsOf};
 ghost use Rattle.jul_words.specs.Least.{IsLeast, IsSettled, MinWordsRule, Loads, Lowers, TakesFloors, lowering, word_by};
 
 use crate::floors::Floors;
@@ -23,6 +23,8 @@ pub type MinWords = Words<Least>;
 
 /// A seat of a table of words that are lowered.
 pub type MinSeat = WordSeat<Least>;
+
+const _: () = prove!(size_of::<MinSeat>() == 0);
 
 struct Load;
 
@@ -63,8 +65,7 @@ impl Words<Least> {
         floors: &F,
     ) -> Result<(MinWords, MinSeat), AllocError>
         requires count { length start.now ≤ MAX_N }
-        requires as_many { length (F.numbers floors.now) ≡ length start.now }
-        requires below { (v : ℕ) → v < length start.now → slice_index (F.numbers floors.now) v ≤ slice_index start.now v }
+        requires floors { AreFloorsOf start.now (F.numbers floors.now) }
         ensures { IfOk result (λ r. r.1 ≡ rooted (home r.0 start.now (F.numbers floors.now))) }
     {
         let mut words = Vec::with_capacity(alloc, start.len() + 1)?;
@@ -81,7 +82,7 @@ impl Words<Least> {
         requires alone { IsAlone seat.old }
         requires empty { seat.old.log ≡ [] }
         requires picked { F.numbers floors.now ≡ B.floors }
-        requires below { (v : ℕ) → v < length seat.old.home.starts → slice_index (F.numbers floors.now) v ≤ slice_index seat.old.home.starts v }
+        requires floors { AreFloorsOf seat.old.home.starts (F.numbers floors.now) }
         ensures { seat.new ≡ with_floors seat.old (F.numbers floors.now) }
     {
         let _ = floors;
@@ -90,6 +91,7 @@ impl Words<Least> {
     }
 
     /// The word of `v`. One load.
+    #[inline]
     pub fn load(&self, seat: &mut MinSeat, v: u32) -> u64
         requires seat { IsSeatOf self.now seat.old }
         requires word { IsWord seat.old v }
@@ -105,6 +107,7 @@ impl Words<Least> {
     }
 
     /// Lowers the word of `v` to `c` where it is greater, and answers what it was. One fetch-min.
+    #[inline]
     pub fn lower(&self, seat: &mut MinSeat, v: u32, c: u64) -> u64
         requires seat { IsSeatOf self.now seat.old }
         requires word { IsWord seat.old v }
@@ -121,6 +124,7 @@ impl Words<Least> {
     }
 
     /// A seat of the same table with an empty log, for another thread. Only the root is split.
+    #[inline]
     pub fn split(&self, seat: &mut MinSeat) -> MinSeat
         requires seat { IsSeatOf self.now seat.old }
         requires root { seat.old.root ≡ true }
@@ -132,6 +136,7 @@ impl Words<Least> {
     }
 
     /// The other seat's log follows that of the root, and one seat fewer is out.
+    #[inline]
     pub fn join(&self, seat: &mut MinSeat, other: MinSeat)
         requires seat { IsSeatOf self.now seat.old }
         requires kin { other.home ≡ seat.old.home }

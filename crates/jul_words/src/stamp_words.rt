@@ -24,6 +24,8 @@ pub type StampWords = Words<Greatest>;
 /// A seat of a table of words that are stamped.
 pub type StampSeat = WordSeat<Greatest>;
 
+const _: () = prove!(size_of::<StampSeat>() == 0);
+
 struct Load;
 
 impl Play<(), View> for Load {
@@ -49,6 +51,7 @@ impl Words<Greatest> {
     /// Stamps `v` with a round, and tells whether the word that it met was less. One fetch-max.
     ///
     /// Of all stamps of `v` with one round at most one is told so.
+    #[inline]
     pub fn stamp(&self, seat: &mut StampSeat, v: u32, round: u64) -> bool
         requires seat { IsSeatOf self.now seat.old }
         requires word { IsWord seat.old v }
@@ -63,6 +66,7 @@ impl Words<Greatest> {
     }
 
     /// A seat of the same table with an empty log, for another thread. Only the root is split.
+    #[inline]
     pub fn split(&self, seat: &mut StampSeat) -> StampSeat
         requires seat { IsSeatOf self.now seat.old }
         requires root { seat.old.root ≡ true }
@@ -74,6 +78,7 @@ impl Words<Greatest> {
     }
 
     /// The other seat's log follows that of the root, and one seat fewer is out.
+    #[inline]
     pub fn join(&self, seat: &mut StampSeat, other: StampSeat)
         requires seat { IsSeatOf self.now seat.old }
         requires kin { other.home ≡ seat.old.home }

@@ -103,6 +103,7 @@ impl<P: Meaning> Words<P> {
     }
 
     /// A seat of the root's home with an empty log. One load of word 0.
+    #[inline]
     pub(crate) fn part_off(&self, seat: &mut WordSeat<P>) -> WordSeat<P>
         requires seat { IsSeatOf self.now seat.old }
         requires root { seat.old.root ≡ true }
@@ -117,6 +118,7 @@ impl<P: Meaning> Words<P> {
     }
 
     /// The other seat's log follows that of the root. One load of word 0.
+    #[inline]
     pub(crate) fn take_in(&self, seat: &mut WordSeat<P>, other: WordSeat<P>)
         requires seat { IsSeatOf self.now seat.old }
         requires kin { other.home ≡ seat.old.home }
