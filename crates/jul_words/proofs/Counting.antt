@@ -46,28 +46,28 @@ puts h words history k m e near at r now = record {
       (cases_eq k j);
 }
 
-module _ (starts : List ℕ) (slots id : ℕ) (me : Sat) (live : me.0.live ≡ true) where
+module _ (of_table : Home) (slots id : ℕ) (me : Sat) (live : me.0.live ≡ true) where
   settled : (words : List ℕ) (history log : List Entry) → IsCount me.0.seat.home words history → HasSameEntries log history → AreTallies me.0.seat.home log
   settled = settles me.0.seat.home
 
-  pub looks : Allows (Rule IsCount starts) slots id me 0 (λ n. n) (Loads (step slots 0 0 0 none) me)
-  looks = looks_on IsCount starts slots id me live Tells AreTallies settled
+  pub looks : Allows (Rule IsCount of_table) slots id me 0 (λ n. n) (Loads (step slots 0 0 0 none) me)
+  looks = looks_on IsCount of_table slots id me live Tells AreTallies settled
 
   module _ (k : ℕ) (near : k < length me.0.seat.home.starts) where
     told_at : (words : List ℕ) (views : List View) (history : List Entry) → Found IsCount id me.0 words views history → Tells me.0.seat k (slice_index words (k + 1))
     told_at words views history here = told id me.0 live words views history here k near
 
-    pub loads : Allows (Rule IsCount starts) slots id me (k + 1) (λ n. n) (Loads (step slots (k + 1) 0 0 none) me)
-    loads = looks_at IsCount starts slots id me live Tells AreTallies settled k told_at
+    pub loads : Allows (Rule IsCount of_table) slots id me (k + 1) (λ n. n) (Loads (step slots (k + 1) 0 0 none) me)
+    loads = looks_at IsCount of_table slots id me live Tells AreTallies settled k told_at
 
     -- a step that makes the word f of what it was, as its entry says
     puts_at : (a : ℕ) (f : ℕ → ℕ) (e : ℕ → ℕ → Entry) → ((n : ℕ) → (e k n).vertex ≡ k) → ((n : ℕ) (es : List Entry) → IsFew k (e k n ∷ es) → (IsFew k es → IsTally k n es) → IsTally k (f n) (e k n ∷ es))
-        → Allows (Rule IsCount starts) slots id me (k + 1) f (Logs (λ st v n. e v n) Tells AreTallies (step slots (k + 1) a 0 none) me)
-    puts_at a f e of_it now = logs_at IsCount starts slots id me live Tells AreTallies settled k told_at a f (λ st v n. e v n) (λ words history r.
+        → Allows (Rule IsCount of_table) slots id me (k + 1) f (Logs (λ st v n. e v n) Tells AreTallies (step slots (k + 1) a 0 none) me)
+    puts_at a f e of_it now = logs_at IsCount of_table slots id me live Tells AreTallies settled k told_at a f (λ st v n. e v n) (λ words history r.
         let n = slice_index words (k + 1) in puts me.0.seat.home words history k (f n) (e k n) near (of_it n) r (λ few. now n history few (r.words_are k near)))
 
-    pub adds : (place : ℕ) → Allows (Rule IsCount starts) slots id me (k + 1) (λ n. (n + 1) % 2 ^ 64) (Adds place (step slots (k + 1) 1 0 none) me)
+    pub adds : (place : ℕ) → Allows (Rule IsCount of_table) slots id me (k + 1) (λ n. (n + 1) % 2 ^ 64) (Adds place (step slots (k + 1) 1 0 none) me)
     adds place = puts_at 1 (λ n. (n + 1) % 2 ^ 64) (λ v n. adding v place n) (λ n. refl) (λ n es few t. added k n place es few (t (omega (arith, one_add k n place))))
 
-    pub drains : Allows (Rule IsCount starts) slots id me (k + 1) (λ _. 0) (Drains (step slots (k + 1) 0 0 none) me)
+    pub drains : Allows (Rule IsCount of_table) slots id me (k + 1) (λ _. 0) (Drains (step slots (k + 1) 0 0 none) me)
     drains = puts_at 0 (λ _. 0) draining (λ n. refl) (λ n es few t. emptied k n es (t (omega arith)))

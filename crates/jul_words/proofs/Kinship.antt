@@ -77,20 +77,6 @@ module _ (h : Home) (views : List View) (history : List Entry) (k : Kin h views 
       ap (weigh f) (((k.stands j u d).is_spent (others_spent a j u n d)).1)) in
       sym only ∙ k.logged f
 
-  -- the root with none out can move to another home
-  pub moves : (g : Home) (s : Seat) → IsAlone v.seat → s.home ≡ g → s.root ≡ true → s.out ≡ 0 → s.log ≡ v.seat.log → Kin g (set views i (lives s)) history
-  moves g s a at_g root out log =
-      let w = lives s in let n = total-set present views i v w at in let mine = k.stands i v at in let count = total present (set views i w) in
-      let one : count ≡ 1 = let was = (mine.is_root a.0).1 in let none = a.1 in omega (arith, one_present v live) in
-      let rest : (j : ℕ) (u : View) → j ≢ i → get_elem? views j ≡ some u → Stands g count j u = λ j u apart d.
-      let gone = others_spent a j u apart d in let empty = (k.stands j u d).is_spent gone in
-      record { at_home = λ l. absurd (true≢false (sym l ∙ gone)); is_spent = λ _. empty; is_root = λ r. absurd (off (sym empty.0 ∙ r)) } in
-      let here : Stands g count i w = record { at_home = λ _. at_g; is_spent = λ f. absurd (true≢false f); is_root = λ _. ((mine.is_root a.0).0, one ∙ ap (λ z. z + 1) (sym out)) } in
-      record {
-        stands = stands_set g count views i w rest here;
-        logged = λ f. omega (arith, total-set (λ u. weigh f u.seat.log) views i v w at, k.logged f, ap (weigh f) log);
-      }
-
   -- only the root is at its place
   one_root : v.seat.root ≡ true → (j : ℕ) (u : View) → j ≢ i → get_elem? views j ≡ some u → u.seat.root ≡ true → ⊥
   one_root r j u n d q = n (((k.stands j u d).is_root q).0 ∙ sym ((k.stands i v at).is_root r).0)

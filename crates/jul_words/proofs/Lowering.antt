@@ -1,21 +1,19 @@
 -- Lowering a word keeps what words mean that are lowered.
-use Rattle.std.proofs.Common.{◌≡◌, ℕ, ◌+◌, ◌<◌, ◌≤◌, ◌≢◌, true, List, [], ◌∷◌, length, drop, min, set, refl, sym, ap, ◌∙◌, subst, ⊎_elim, arith}
+use Rattle.std.proofs.Common.{◌≡◌, ℕ, ◌+◌, ◌<◌, ◌≤◌, ◌≢◌, true, List, ◌∷◌, length, drop, min, set, refl, sym, ap, ◌∙◌, subst, ⊎_elim, arith}
 use Rattle.std.specs.Prelude.{slice_index, slice_set}
 use Rattle.std.proofs.lemmas.Bool.{cases_eq}
-use Rattle.std.proofs.lemmas.List.{length-set, get_or-set_same, get_or-set_other, set-get_or}
+use Rattle.std.proofs.lemmas.List.{length-set, get_or-set_same, get_or-set_other}
 use mathlib.Core.Option.{none}
-use Rattle.atomic_table.specs.Table.{step, keeps, Allows}
+use Rattle.atomic_table.specs.Table.{step, Allows}
 use Rattle.jul_base.specs.Logs.{Entry, Home}
-use Rattle.jul_words.specs.Weights.{weigh, HasSameEntries}
-use Rattle.jul_words.specs.Seats.{home, named, with_floors, all_entries, start_of, floor_of, IsAlone, AreFloorsOf}
-use Rattle.jul_words.specs.Views.{View, lives, Kin}
+use Rattle.jul_words.specs.Weights.{HasSameEntries}
+use Rattle.jul_words.specs.Seats.{home, named, all_entries, start_of, floor_of}
+use Rattle.jul_words.specs.Views.{View}
 use Rattle.jul_words.specs.Ruled.{Sat}
-use Rattle.jul_words.specs.Least.{IsLeast, MinWordsRule, IsSettled, Tells, Loads, Lowers, TakesFloors, word_by, lowering}
-use Rattle.jul_words.proofs.Sums.{weigh-nothing}
-use Rattle.jul_words.proofs.Kinship.{homely, moves}
+use Rattle.jul_words.specs.Least.{IsLeast, MinWordsRule, IsSettled, Tells, Loads, Lowers, word_by, lowering}
 use Rattle.jul_words.proofs.Living.{word_after_one, others, others_entries, others_kin}
 use Rattle.jul_words.proofs.Minima.{least_here, least_else, least_more, least_same, lowers_floor, lowers_marks, marks_same, settles}
-use Rattle.jul_words.proofs.Ruling.{Rule, Found, known, looks_on, looks_at, logs_at}
+use Rattle.jul_words.proofs.Ruling.{Rule, Found, looks_on, looks_at, logs_at}
 
 module _ (id : ℕ) (me : View) (live : me.live ≡ true) (words : List ℕ) (views : List View) (history : List Entry) (at : Found IsLeast id me words views history) where
   abbrev h : Home
@@ -54,41 +52,19 @@ lowered h words history r k near c low = let n = slice_index words (k + 1) in le
   legal = (ap (lowering k c) w, low, r.legal);
 }
 
-module _ (starts : List ℕ) (slots id : ℕ) (me : Sat) (live : me.0.live ≡ true) where
+module _ (of_table : Home) (slots id : ℕ) (me : Sat) (live : me.0.live ≡ true) where
   settled : (words : List ℕ) (history log : List Entry) → IsLeast me.0.seat.home words history → HasSameEntries log history → IsSettled me.0.seat.home log
   settled = settles me.0.seat.home
 
-  pub looks : Allows (Rule IsLeast starts) slots id me 0 (λ n. n) (Loads (step slots 0 0 0 none) me)
-  looks = looks_on IsLeast starts slots id me live Tells IsSettled settled
+  pub looks : Allows (Rule IsLeast of_table) slots id me 0 (λ n. n) (Loads (step slots 0 0 0 none) me)
+  looks = looks_on IsLeast of_table slots id me live Tells IsSettled settled
 
   module _ (k : ℕ) (near : k < length me.0.seat.home.starts) where
     told_at : (words : List ℕ) (views : List View) (history : List Entry) → Found IsLeast id me.0 words views history → Tells me.0.seat k (slice_index words (k + 1))
     told_at words views history here = told id me.0 live words views history here k near
 
-    pub loads : Allows (Rule IsLeast starts) slots id me (k + 1) (λ n. n) (Loads (step slots (k + 1) 0 0 none) me)
-    loads = looks_at IsLeast starts slots id me live Tells IsSettled settled k told_at
+    pub loads : Allows (Rule IsLeast of_table) slots id me (k + 1) (λ n. n) (Loads (step slots (k + 1) 0 0 none) me)
+    loads = looks_at IsLeast of_table slots id me live Tells IsSettled settled k told_at
 
-    pub lowers : (c : ℕ) → floor_of me.0.seat.home k ≤ c → Allows (Rule IsLeast starts) slots id me (k + 1) (λ n. min n c) (Lowers (step slots (k + 1) c 0 none) me)
-    lowers c low = logs_at IsLeast starts slots id me live Tells IsSettled settled k told_at c (λ n. min n c) (λ st v n. lowering v st.first n) (λ words history r. lowered me.0.seat.home words history r k near c low)
-
--- the root with none out and an empty log takes other floors, none of which is above its start
-module _ (starts : List ℕ) (slots id : ℕ) (me : Sat) (live : me.0.live ≡ true) (alone : IsAlone me.0.seat) (empty : me.0.seat.log ≡ []) (floors : List ℕ) where
-  pub takes_floors : AreFloorsOf me.0.seat.home.starts floors → Allows (Rule IsLeast starts) slots id me 0 (λ n. n) (TakesFloors floors (step slots 0 0 0 none) me)
-  takes_floors fit s r sizes at fits =
-      let old = homely _ s.views r.history r.kin id me.0 at live in let to = with_floors me.0.seat floors in
-      let at_starts : me.0.seat.home.starts ≡ starts = ap (λ (h : Home). h.starts) old in
-      let none : r.history ≡ [] = weigh-nothing r.history (sym ((known IsLeast starts slots id me live s r at).whole alone (λ _. 1)) ∙ ap (weigh (λ _. 1)) empty) in
-      let kin : Kin (home [] starts floors) (set s.views id (lives to)) r.history = moves _ s.views r.history r.kin id me.0 at live (home [] starts floors) to alone (ap (λ (h : Home). home h.table h.starts floors) old) alone.0 alone.1 refl in
-      let low = subst (λ (xs : List ℕ). AreFloorsOf xs floors) at_starts fit in
-      let holds : IsLeast (home [] starts floors) s.words [] = record { size = r.holds.size; floors = low.below; words_are = λ v near. subst (λ log. slice_index s.words (v + 1) ≡ word_by (home [] starts floors) log v) none (r.holds.words_are v near); legal = tt } in (
-        lives to,
-        keeps,
-        tt,
-        record {
-          floors = floors;
-          history = r.history;
-          kin = kin;
-          holds = subst (λ (p : List ℕ × List Entry). IsLeast (home [] starts floors) p.0 p.1) (λ t. (sym (set-get_or s.words 0 0) t, sym none t)) holds;
-        },
-        refl,
-      )
+    pub lowers : (c : ℕ) → floor_of me.0.seat.home k ≤ c → Allows (Rule IsLeast of_table) slots id me (k + 1) (λ n. min n c) (Lowers (step slots (k + 1) c 0 none) me)
+    lowers c low = logs_at IsLeast of_table slots id me live Tells IsSettled settled k told_at c (λ n. min n c) (λ st v n. lowering v st.first n) (λ words history r. lowered me.0.seat.home words history r k near c low)

@@ -8,7 +8,7 @@ use Rattle.atomic_table.specs.Table.{Step, step, keeps, Allows, Splits, Joins, o
 use Rattle.atomic_table.proofs.Lists.{set_again}
 use Rattle.jul_base.specs.Logs.{Entry, Home}
 use Rattle.jul_words.specs.Weights.{HasSameEntries}
-use Rattle.jul_words.specs.Seats.{Seat, home, rooted, beside, logs, lent, joined, IsAlone}
+use Rattle.jul_words.specs.Seats.{Seat, rooted, beside, logs, lent, joined, IsAlone}
 use Rattle.jul_words.specs.Views.{View, lives, spent, Kin}
 use Rattle.jul_words.specs.Ruled.{Meaning, Ruled, Knows, Words, Sat, Looks, Logs}
 use Rattle.jul_words.proofs.Sums.{weigh-append}
@@ -25,25 +25,24 @@ pub record Found (R : Meaning) (id : ℕ) (me : View) (words : List ℕ) (views 
   pub mine : get_elem? views id ≡ some me
   pub knows : Knows me.seat history
 
-module _ (R : Meaning) (starts : List ℕ) where
+module _ (R : Meaning) (h : Home) where
   abbrev pub Rule : Words → Type 0
-  Rule s = Ruled R starts s.words s.views
+  Rule s = Ruled R h s.words s.views
 
-  -- the floors begin as the starts
-  pub opens : (words : List ℕ) (xs : List (Unit {0})) → R (home [] starts starts) words [] → Rule (opening words xs (lives (rooted (home [] starts starts))))
-  opens words xs holds = record { floors = starts; history = []; kin = begins (home [] starts starts); holds = holds }
+  pub opens : (words : List ℕ) (xs : List (Unit {0})) → R h words [] → Rule (opening words xs (lives (rooted h)))
+  opens words xs holds = record { history = []; kin = begins h; holds = holds }
 
   pub splits : (id : ℕ) (v : View) → v.live ≡ true → v.seat.root ≡ true → Splits Rule id v (lives (lent v.seat)) (lives (beside v.seat))
-  splits id v live root s r at = record { floors = r.floors; history = r.history; kin = forks _ s.views r.history r.kin id v at live root; holds = r.holds }
+  splits id v live root s r at = record { history = r.history; kin = forks _ s.views r.history r.kin id v at live root; holds = r.holds }
 
   pub joins : (id : ℕ) (v : View) (other : ℕ) (u : View) → v.live ≡ true → v.seat.root ≡ true → 0 < v.seat.out → u.live ≡ true → u.seat.root ≡ false → Joins Rule id v other u (lives (joined v.seat u.seat)) spent
-  joins id v other u live root out u_live seat s r at apart there = record { floors = r.floors; history = r.history; kin = merges _ s.views r.history r.kin id v at live other u root out u_live seat apart there; holds = r.holds }
+  joins id v other u live root out u_live seat s r at apart there = record { history = r.history; kin = merges _ s.views r.history r.kin id v at live other u root out u_live seat apart there; holds = r.holds }
 
   module _ (slots id : ℕ) (me : Sat) (live : me.0.live ≡ true) where
     pub known : (s : Words) (r : Rule s) → get_elem? s.views id ≡ some me.0 → Knows me.0.seat r.history
     known s r at = record { own = own_le _ s.views r.history r.kin id me.0 at live; whole = alone _ s.views r.history r.kin id me.0 at live }
 
-    at_home : (s : Words) (r : Rule s) → get_elem? s.views id ≡ some me.0 → me.0.seat.home ≡ home [] starts r.floors
+    at_home : (s : Words) (r : Rule s) → get_elem? s.views id ≡ some me.0 → me.0.seat.home ≡ h
     at_home s r at = homely _ s.views r.history r.kin id me.0 at live
 
     found : (s : Words) (r : Rule s) → get_elem? s.views id ≡ some me.0 → Found R id me.0 s.words s.views r.history
@@ -59,7 +58,7 @@ module _ (R : Meaning) (starts : List ℕ) where
       looks : (i : ℕ) → ((words : List ℕ) (views : List View) (history : List Entry) → Found R id me.0 words views history → (v : ℕ) → i ≡ v + 1 → Tells me.0.seat v (slice_index words i))
           → Allows Rule slots id me i (λ n. n) (Looks Tells Settled (step slots i 0 0 none) me)
       looks i tells s r sizes at fits =
-          let W : List ℕ × List View → Type 0 = λ p. Ruled R starts p.0 p.1 in let here = found s r at in (
+          let W : List ℕ × List View → Type 0 = λ p. Ruled R h p.0 p.1 in let here = found s r at in (
             me.0,
             keeps,
             tt,
@@ -88,7 +87,6 @@ module _ (R : Meaning) (starts : List ℕ) where
               keeps,
               tt,
               record {
-                floors = r.floors;
                 history = e st k n ∷ r.history;
                 kin = adds _ s.views r.history r.kin id me.0 at live (e st k n);
                 holds = subst (λ g. R g (slice_set s.words (k + 1) (f n)) (e st k n ∷ r.history)) (at_home s r at) new;

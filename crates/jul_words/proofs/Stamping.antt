@@ -47,16 +47,16 @@ stamped h words history r k near c = let n = slice_index words (k + 1) in let e 
   legal = (ap (stamping k c) w, r.legal);
 }
 
-module _ (starts : List ℕ) (slots id : ℕ) (me : Sat) (live : me.0.live ≡ true) where
+module _ (of_table : Home) (slots id : ℕ) (me : Sat) (live : me.0.live ≡ true) where
   settled : (words : List ℕ) (history log : List Entry) → IsGreatest me.0.seat.home words history → HasSameEntries log history → AllFirsts me.0.seat.home log
   settled = settles me.0.seat.home
 
-  pub looks : Allows (Rule IsGreatest starts) slots id me 0 (λ n. n) (Loads (step slots 0 0 0 none) me)
-  looks = looks_on IsGreatest starts slots id me live Tells AllFirsts settled
+  pub looks : Allows (Rule IsGreatest of_table) slots id me 0 (λ n. n) (Loads (step slots 0 0 0 none) me)
+  looks = looks_on IsGreatest of_table slots id me live Tells AllFirsts settled
 
   module _ (k : ℕ) (near : k < length me.0.seat.home.starts) where
     told_at : (words : List ℕ) (views : List View) (history : List Entry) → Found IsGreatest id me.0 words views history → Tells me.0.seat k (slice_index words (k + 1))
     told_at words views history here = told id me.0 live words views history here k near
 
-    pub stamps : (c : ℕ) → Allows (Rule IsGreatest starts) slots id me (k + 1) (λ n. max n c) (StampsOn (step slots (k + 1) c 0 none) me)
-    stamps c = logs_at IsGreatest starts slots id me live Tells AllFirsts settled k told_at c (λ n. max n c) (λ st v n. stamping v st.first n) (λ words history r. stamped me.0.seat.home words history r k near c)
+    pub stamps : (c : ℕ) → Allows (Rule IsGreatest of_table) slots id me (k + 1) (λ n. max n c) (StampsOn (step slots (k + 1) c 0 none) me)
+    stamps c = logs_at IsGreatest of_table slots id me live Tells AllFirsts settled k told_at c (λ n. max n c) (λ st v n. stamping v st.first n) (λ words history r. stamped me.0.seat.home words history r k near c)

@@ -10,11 +10,6 @@ pub weigh-append : (f : Entry → ℕ) (l m : List Entry) → weigh f (l ++ m) �
 weigh-append f [] m = omega arith
 weigh-append f (x ∷ xs) m = omega (arith, weigh-append f xs m)
 
--- a list in which each entry weighs 1, and all together nothing, is empty
-pub weigh-nothing : (log : List Entry) → weigh (λ _. 1) log ≡ 0 → log ≡ []
-weigh-nothing [] none = refl
-weigh-nothing (e ∷ es) none = absurd (omega arith)
-
 module _ (g : View → ℕ) where
   pub total-append : (l m : List View) → total g (l ++ m) ≡ total g l + total g m
   total-append [] m = omega arith

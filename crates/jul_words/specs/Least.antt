@@ -3,8 +3,7 @@ use Rattle.std.specs.Prelude.{◌≡◌, ℕ, ◌+◌, ◌<◌, ◌≤◌, List,
 use Rattle.atomic_table.specs.Table.{Step}
 use Rattle.jul_base.specs.Logs.{Entry, Home, LOWER}
 use Rattle.jul_words.specs.Weights.{counted}
-use Rattle.jul_words.specs.Seats.{Seat, IsAlone, AreKin, AtMoment, start_of, floor_of, entry, named, with_floors, all_entries}
-use Rattle.jul_words.specs.Views.{lives}
+use Rattle.jul_words.specs.Seats.{Seat, IsAlone, AreKin, AtMoment, start_of, floor_of, entry, named, all_entries}
 use Rattle.jul_words.specs.Ruled.{Sat, Looks, Logs}
 use Rattle.jul_words.specs.Marks.{marks}
 
@@ -62,7 +61,3 @@ Loads = Looks Tells IsSettled
 
 abbrev pub Lowers : Step (Unit {0}) → Sat → ℕ → Sat → Type 0
 Lowers = Logs (λ st v n. lowering v st.first n) Tells IsSettled
-
--- the step by which the root takes the floors
-abbrev pub TakesFloors : List ℕ → Step (Unit {0}) → Sat → ℕ → Sat → Type 0
-TakesFloors floors st m n w = w ≡ (lives (with_floors m.0.seat floors), m.1)

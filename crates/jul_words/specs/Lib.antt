@@ -3,6 +3,7 @@ pub mod Weights
 pub mod Views
 pub mod Ruled
 pub mod Marks
+pub mod Keys
 pub mod Least
 pub mod Counts
 pub mod Stamps

@@ -1,9 +1,9 @@
 -- The rule of a table of words, by what its words mean.
-use Rattle.std.specs.Prelude.{◌≡◌, ℕ, ◌+◌, ◌≤◌, List, []}
+use Rattle.std.specs.Prelude.{◌≡◌, ℕ, ◌+◌, ◌≤◌, List}
 use Rattle.atomic_table.specs.Table.{State, Me, Step}
 use Rattle.jul_base.specs.Logs.{Entry, Home}
 use Rattle.jul_words.specs.Weights.{weigh, HasSameEntries}
-use Rattle.jul_words.specs.Seats.{Seat, IsAlone, home, logs}
+use Rattle.jul_words.specs.Seats.{Seat, IsAlone, logs}
 use Rattle.jul_words.specs.Views.{View, lives, Kin}
 
 -- what the words of a home mean after a history, whose newest entry stands first
@@ -11,11 +11,10 @@ abbrev pub Meaning : Type 1
 Meaning = Home → List ℕ → List Entry → Type 0
 
 -- the words mean a history, which is that of the live views
-pub record Ruled (R : Meaning) (starts : List ℕ) (words : List ℕ) (views : List View) : Type 0 where
-  pub floors : List ℕ
+pub record Ruled (R : Meaning) (h : Home) (words : List ℕ) (views : List View) : Type 0 where
   pub history : List Entry
-  pub kin : Kin (home [] starts floors) views history
-  pub holds : R (home [] starts floors) words history
+  pub kin : Kin h views history
+  pub holds : R h words history
 
 -- what a seat knows of the history
 pub record Knows (s : Seat) (history : List Entry) : Type 0 where

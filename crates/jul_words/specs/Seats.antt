@@ -51,10 +51,6 @@ beside s = record { home = s.home; root = false; out = 0; log = [] }
 abbrev pub logs : Seat → Entry → Seat
 logs s e = record { home = s.home; root = s.root; out = s.out; log = s.log ++ e ∷ [] }
 
--- the seat is at these floors
-abbrev pub with_floors : Seat → List ℕ → Seat
-with_floors s floors = record { home = home s.home.table s.home.starts floors; root = s.root; out = s.out; log = s.log }
-
 -- one more seat is out
 abbrev pub lent : Seat → Seat
 lent s = record { home = s.home; root = s.root; out = s.out + 1; log = s.log }

@@ -4,7 +4,8 @@ ghost use Rattle.jul_base.specs.declared.limits.TheConstants.{MAX_N};
 ghost use Rattle.jul_words.specs.Seats.{IsSeatOf, IsWord, IsAlone, AtMoment, home, rooted, beside, lent, joined, logs};
 ghost use Rattle.jul_words.specs.Counts.{IsCount, IsFew, AreTallies, CountWordsRule, Loads, Adds, Drains, adding, draining, tally};
 
-use crate::tables::{Meaning, WordSeat, Words};
+use crate::tables::{AfterFirst, Key, Meaning, WordSeat, Words};
+use crate::tags::Tag;
 use crate::views::View;
 use atomic_table::Play;
 use std::alloc::{AllocError, Global};
@@ -61,7 +62,11 @@ impl Words<Count> {
         ensures { IfOk result (λ r. r.1 ≡ rooted (home r.0 (replicate count 0) (replicate count 0))) }
     {
         let words = vec![in alloc; 0u64; count as usize + 1]?;
-        Words::begin(alloc, &words)
+        let key = Key {
+            starts: Tag::of::<Vec<u64>, AfterFirst>(&words),
+            floors: Tag::of::<Vec<u64>, AfterFirst>(&words),
+        };
+        Words::begin(alloc, words.as_slice(), &key)
     }
 
     /// The count of `v`. One load.

@@ -12,6 +12,7 @@ mod min_words;
 mod pairs;
 mod stamp_words;
 mod tables;
+mod tags;
 mod views;
 
 pub use count_words::{CountSeat, CountWords};

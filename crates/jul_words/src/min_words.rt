@@ -1,15 +1,16 @@
 //! Words that are lowered, each by one fetch-min.
 ghost use Rattle.std.specs.Prelude.{◌≡◌, ℕ, ◌+◌, ◌<◌, ◌≤◌, List, [], length, slice_index, drop, replicate, true, false, IfOk};
 ghost use Rattle.jul_base.specs.declared.limits.TheConstants.{MAX_N};
-ghost use Rattle.jul_words.specs.Seats.{IsSeatOf, IsWord, IsAlone, AtMoment, home, rooted, beside, lent, joined, logs, with_floors, floor_of, AreFloorsOf};
-ghost use Rattle.jul_words.specs.Least.{IsLeast, IsSettled, MinWordsRule, Loads, Lowers, TakesFloors, lowering, word_by};
+ghost use Rattle.jul_words.specs.Seats.{IsSeatOf, IsWord, IsAlone, AtMoment, home, rooted, beside, lent, joined, logs, floor_of, AreFloorsOf};
+ghost use Rattle.jul_words.specs.Least.{IsLeast, IsSettled, MinWordsRule, Loads, Lowers, lowering, word_by};
 
 use crate::floors::Floors;
-use crate::tables::{Meaning, WordSeat, Words};
+use crate::tables::{AfterFirst, Key, Meaning, WordSeat, Words};
+use crate::tags::{Names, Tag};
 use crate::views::View;
 use atomic_table::Play;
 use std::alloc::{AllocError, Global};
-use std::marker::{Brand, PhantomData};
+use std::marker::PhantomData;
 
 /// Each word is the least of its start and of the numbers offered for its vertex.
 pub struct Least;
@@ -38,21 +39,12 @@ impl Play<(), View> for Lower {
     ghost then = { Lowers };
 }
 
-// Floors that a step takes, and no argument of the step has.
-trait Low {
-    ghost floors: { List ℕ };
+struct FloorsOf<F> {
+    marker: PhantomData<F>,
 }
 
-impl Low for Brand {
-    ghost floors = { [] };
-}
-
-struct TakeFloors<B: Low> {
-    marker: PhantomData<B>,
-}
-
-impl<B: Low> Play<(), View> for TakeFloors<B> {
-    ghost then = { TakesFloors B.floors };
+impl<F: Floors> Names<F> for FloorsOf<F> {
+    ghost numbers = { λ floors. F.numbers floors };
 }
 
 impl Words<Least> {
@@ -71,23 +63,11 @@ impl Words<Least> {
         let mut words = Vec::with_capacity(alloc, start.len() + 1)?;
         words.push_reserved(0);
         words.extend_from_slice(start)?;
-        let (table, mut seat) = Words::begin(alloc, &words)?;
-        table.take_floors::<F, Brand>(&mut seat, floors);
-        Ok((table, seat))
-    }
-
-    // The root, which is alone and has logged nothing, takes the floors at a load of word 0.
-    fn take_floors<F: Floors, B: Low>(&self, seat: &mut MinSeat, floors: &F)
-        requires seat { IsSeatOf self.now seat.old }
-        requires alone { IsAlone seat.old }
-        requires empty { seat.old.log ≡ [] }
-        requires picked { F.numbers floors.now ≡ B.floors }
-        requires floors { AreFloorsOf seat.old.home.starts (F.numbers floors.now) }
-        ensures { seat.new ≡ with_floors seat.old (F.numbers floors.now) }
-    {
-        let _ = floors;
-        let words = &self.table.shared;
-        words.load::<TakeFloors<B>>(&mut seat.seat, 0);
+        let key = Key {
+            starts: Tag::of::<Vec<u64>, AfterFirst>(&words),
+            floors: Tag::of::<F, FloorsOf<F>>(floors),
+        };
+        Words::begin(alloc, words.as_slice(), &key)
     }
 
     /// The word of `v`. One load.

@@ -6,7 +6,8 @@ ghost use Rattle.jul_words.specs.Weights.{counted};
 ghost use Rattle.jul_words.specs.Seats.{IsSeatOf, IsWord, IsAlone, AtMoment, home, rooted, beside, lent, joined, logs, entry};
 ghost use Rattle.jul_words.specs.Stamps.{IsGreatest, AllFirsts, StampWordsRule, Loads, StampsOn, Met, greatest};
 
-use crate::tables::{Meaning, WordSeat, Words};
+use crate::tables::{AfterFirst, Key, Meaning, WordSeat, Words};
+use crate::tags::Tag;
 use crate::views::View;
 use atomic_table::Play;
 use std::alloc::{AllocError, Global};
@@ -45,7 +46,11 @@ impl Words<Greatest> {
         ensures { IfOk result (λ r. r.1 ≡ rooted (home r.0 (replicate count 0) (replicate count 0))) }
     {
         let words = vec![in alloc; 0u64; count as usize + 1]?;
-        Words::begin(alloc, &words)
+        let key = Key {
+            starts: Tag::of::<Vec<u64>, AfterFirst>(&words),
+            floors: Tag::of::<Vec<u64>, AfterFirst>(&words),
+        };
+        Words::begin(alloc, words.as_slice(), &key)
     }
 
     /// Stamps `v` with a round, and tells whether the word that it met was less. One fetch-max.

@@ -2,15 +2,16 @@
 //!
 //! Word 0 belongs to the table: splits and joins load it. The word of vertex `v` is word `v + 1`.
 ghost use Rattle.std.specs.Prelude.{◌≡◌, ℕ, ◌+◌, ◌<◌, ◌≤◌, List, [], ◌∷◌, true, false, length, drop, IfOk};
-ghost use Rattle.jul_words.specs.Seats.{IsSeatOf, home, rooted, beside, lent, joined};
+ghost use Rattle.jul_words.specs.Seats.{IsSeatOf, rooted, named, beside, lent, joined};
 ghost use Rattle.jul_words.specs.Views.{lives, spent};
 ghost use Rattle.jul_words.specs.Ruled.{Ruled};
+ghost use Rattle.jul_words.specs.Keys.{home_by};
 
+use crate::tags::{Names, Tag};
 use crate::views::View;
 use atomic_table::{Join, Seat, Split, Table, TableRule};
 use std::alloc::{AllocError, Global};
 use std::marker::{Model, PhantomData};
-use std::snapshot::Snapshot;
 
 /// What the words of a table mean.
 pub trait Meaning {
@@ -21,17 +22,28 @@ pub trait Meaning {
     ghost holds: { Home → List ℕ → List Entry → Type 0 };
 }
 
-// The words at the start, of which the first is the table's own. It has no bytes.
-pub type Key = Snapshot<Vec<u64>>;
+/// The starts and the floors of a table, which contracts alone see.
+#[derive(Drop)]
+pub struct Key {
+    pub starts: Tag,
+    pub floors: Tag,
+}
+
+// The words after the first, which is the table's own.
+pub(crate) struct AfterFirst;
+
+impl Names<Vec<u64>> for AfterFirst {
+    ghost numbers = { λ words. drop 1 words.items };
+}
 
 pub struct Logged<P: Meaning> {
     marker: PhantomData<P>,
 }
 
 impl<P: Meaning> TableRule<(), View, Key> for Logged<P> {
-    ghost holds = { λ key s. Ruled P.holds (drop 1 key.value.items) s.words s.views };
+    ghost holds = { λ key s. Ruled P.holds (home_by key) s.words s.views };
 
-    ghost first = { λ key. lives (rooted (home [] (drop 1 key.value.items) (drop 1 key.value.items))) };
+    ghost first = { λ key. lives (rooted (home_by key)) };
 }
 
 struct Kindred;
@@ -82,17 +94,17 @@ impl<P: Meaning> Model for WordSeat<P> {
 }
 
 impl<P: Meaning> Words<P> {
-    /// A table of these words, of which the first is the table's own, and its root seat. The floors are the starts.
+    /// A table of these words, of which the first is the table's own, and its root seat.
     pub(crate) fn begin(
         alloc: Global,
-        words: &Vec<u64>,
+        words: &[u64],
+        key: &Key,
     ) -> Result<(Words<P>, WordSeat<P>), AllocError>
-        requires some { 0 < length words.now.items }
-        requires holds { P.holds (home [] (drop 1 words.now.items) (drop 1 words.now.items)) words.now.items [] }
-        ensures { IfOk result (λ r. r.1 ≡ rooted (home r.0 (drop 1 words.now.items) (drop 1 words.now.items))) }
+        requires size { length words.now ≡ length key.now.starts.numbers + 1 }
+        requires holds { P.holds (home_by key.now) words.now [] }
+        ensures { IfOk result (λ r. r.1 ≡ named r.0 (rooted (home_by key.now))) }
     {
-        let key = Snapshot::of(words);
-        let (table, seat) = Table::of_words(alloc, words.as_slice(), &key)?;
+        let (table, seat) = Table::of_words(alloc, words, key)?;
         Ok((
             Words { table },
             WordSeat {
