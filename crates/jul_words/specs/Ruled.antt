@@ -1,5 +1,5 @@
 -- The rule of a table of words, by what its words mean.
-use Rattle.std.specs.Prelude.{◌≡◌, ℕ, ◌+◌, ◌≤◌, List}
+use Rattle.std.specs.Prelude.{◌≡◌, ℕ, ◌+◌, ◌≤◌, List, [], true, length}
 use Rattle.atomic_table.specs.Table.{State, Me, Step}
 use Rattle.jul_base.specs.Logs.{Entry, Home}
 use Rattle.jul_words.specs.Weights.{weigh, HasSameEntries}
@@ -27,6 +27,10 @@ Words = State (Unit {0}) View
 -- a view, and the slots that a seat holds, which are none
 abbrev pub Sat : Type 0
 Sat = Me (Unit {0}) View
+
+-- what the seats of a program keep: the view is live, no slot is held, and each start has a word after the table's own
+abbrev pub IsSeated : ℕ → Sat → Type 0
+IsSeated words me = (me.1 ≡ []) × (me.0.live ≡ true) × (words ≡ length me.0.seat.home.starts + 1)
 
 -- a step that leaves the word and the seat: what the number found tells of its vertex, and what the root with none out knows of its log
 pub record Looks (Tells : Seat → ℕ → ℕ → Type 0) (Settled : Home → List Entry → Type 0) (st : Step (Unit {0})) (m : Sat) (n : ℕ) (w : Sat) : Type 0 where

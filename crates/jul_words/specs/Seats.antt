@@ -1,5 +1,5 @@
 -- What contracts see of a seat, and of all live seats of a table together.
-use Rattle.std.specs.Prelude.{◌≡◌, ℕ, ◌+◌, ◌-◌, ◌<◌, ◌≤◌, List, [], ◌∷◌, ◌++◌, Bool, true, false, All, length, slice_index}
+use Rattle.std.specs.Prelude.{◌≡◌, ℕ, ◌+◌, ◌-◌, ◌<◌, ◌≤◌, List, [], ◌∷◌, ◌++◌, Bool, true, false, All, length, replicate, slice_index}
 use Rattle.atomic_table.specs.Seated.{TableId}
 use Rattle.jul_base.specs.Logs.{Entry, Home}
 
@@ -39,6 +39,10 @@ entry kind vertex number mark = record { kind = kind; vertex = vertex; number = 
 
 abbrev pub home : List ℕ → List ℕ → List ℕ → Home
 home table starts floors = record { table = table; starts = starts; floors = floors }
+
+-- of a table of words that start at 0
+abbrev pub zeros : List ℕ → ℕ → Home
+zeros table count = home table (replicate count 0) (replicate count 0)
 
 -- the root at the start, and what is split off it
 abbrev pub rooted : Home → Seat

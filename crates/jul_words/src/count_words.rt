@@ -1,7 +1,7 @@
 //! Words that count, each by one fetch-add or one swap.
-ghost use Rattle.std.specs.Prelude.{◌≡◌, ℕ, ◌+◌, ◌<◌, ◌≤◌, [], length, replicate, true, false, IfOk};
+ghost use Rattle.std.specs.Prelude.{◌≡◌, ℕ, ◌+◌, ◌<◌, ◌≤◌, [], true, false, IfOk};
 ghost use Rattle.jul_base.specs.declared.limits.TheConstants.{MAX_N};
-ghost use Rattle.jul_words.specs.Seats.{IsSeatOf, IsWord, IsAlone, AtMoment, home, rooted, beside, lent, joined, logs};
+ghost use Rattle.jul_words.specs.Seats.{IsSeatOf, IsWord, IsAlone, AtMoment, zeros, rooted, beside, lent, joined, logs};
 ghost use Rattle.jul_words.specs.Counts.{IsCount, IsFew, AreTallies, CountWordsRule, Loads, Adds, Drains, adding, draining, tally};
 
 use crate::tables::{AfterFirst, Key, Meaning, WordSeat, Words};
@@ -56,10 +56,12 @@ impl Play<(), View> for Drain {
 }
 
 impl Words<Count> {
-    /// A table of `count` words that are 0, and its root seat. Memory that runs out is the only refusal.
+    /// A table of `count` words that are 0, and its root seat.
+    ///
+    /// Memory that runs out is the only refusal.
     pub fn open(alloc: Global, count: u32) -> Result<(CountWords, CountSeat), AllocError>
         requires { count ≤ MAX_N }
-        ensures { IfOk result (λ r. r.1 ≡ rooted (home r.0 (replicate count 0) (replicate count 0))) }
+        ensures { IfOk result (λ r. r.1 ≡ rooted (zeros r.0 count)) }
     {
         let words = vec![in alloc; 0u64; count as usize + 1]?;
         let key = Key {

@@ -75,7 +75,9 @@ fn lower_in_threads<R: Threads + Sync>(
     )
 }
 
-/// Four threads lower one word to the numbers of a list each. Then it is the least of its start and of them all.
+/// Four threads lower one word to the numbers of a list each.
+///
+/// Then it is the least of its start and of all these numbers.
 pub fn lower_by_four<R: Threads + Sync>(
     rt: &R,
     alloc: Global,

@@ -7,7 +7,7 @@ use crate::stamp_words::Greatest;
 use crate::tables::{Meaning, WordSeat, Words};
 use jul_base::Share;
 
-/// A seat and the table that it is of. Its log and its home have one part, which is that of the seat.
+/// A seat and the table that it is of. Its log and its home have one part, that of the seat.
 #[derive(Drop)]
 pub struct Hand<'a, P: Meaning> {
     pub words: &'a Words<P>,

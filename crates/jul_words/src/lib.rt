@@ -1,8 +1,8 @@
 //! Tables of words that many threads change at once by single atomic steps.
 //!
-//! Each thread makes its steps through a seat, which logs them. What a word contains at any moment is exactly
-//! what the logs of all seats say: the least number offered, the adds less the drains, or the greatest round.
-//! Start with `MinWords`, `CountWords` or `StampWords`.
+//! Each thread makes its steps through a seat, which logs them. What a word contains at any moment is
+//! exactly what the logs of all seats say: the least number offered, the adds less the drains, or the
+//! greatest round. Start with `MinWords`, `CountWords` or `StampWords`.
 #![tactic(auto)]
 
 mod count_words;

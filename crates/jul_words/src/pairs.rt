@@ -1,10 +1,12 @@
 //! Two tokens as one.
 ghost use Rattle.std.specs.Prelude.{◌≡◌, ◌+◌, ◌++◌, true, length};
-ghost use Rattle.std.proofs.Common.{arith, length-append};
+ghost use Rattle.jul_base.proofs.LogLaws.{parts-append};
 
 use jul_base::Share;
 
-/// Two tokens that are split and joined together. Log and home have the parts of `a` and then those of `b`.
+/// Two tokens that are split and joined together.
+///
+/// Its log and its home have the parts of `a` and then those of `b`.
 #[derive(Drop)]
 pub struct Both<A: Share, B: Share> {
     pub a: A,
@@ -16,17 +18,17 @@ pub struct Both<A: Share, B: Share> {
 impl<A: Share, B: Share> Share for Both<A, B> {
     ghost parts = { A.parts + B.parts };
 
-    ghost log = { λ both. A.log both.a ++ B.log both.b };
+    ghost log = { λ x. A.log x.a ++ B.log x.b };
 
-    ghost home = { λ both. A.home both.a ++ B.home both.b };
+    ghost home = { λ x. A.home x.a ++ B.home x.b };
 
-    ghost is_root = { λ both. A.is_root both.a };
+    ghost is_root = { λ x. A.is_root x.a };
 
-    ghost out = { λ both. A.out both.a };
+    ghost out = { λ x. A.out x.a };
 
-    ghost log_has_parts = { λ both. Prim.omega (arith, length-append (A.log both.a) (B.log both.b), A.log_has_parts both.a, B.log_has_parts both.b) };
+    ghost log_has_parts = { λ x. parts-append _ _ _ _ (A.log_has_parts x.a) (B.log_has_parts x.b) };
 
-    ghost home_has_parts = { λ both. Prim.omega (arith, length-append (A.home both.a) (B.home both.b), A.home_has_parts both.a, B.home_has_parts both.b) };
+    ghost home_has_parts = { λ x. parts-append _ _ _ _ (A.home_has_parts x.a) (B.home_has_parts x.b) };
 
     fn split(&mut self) -> Both<A, B> {
         let a = self.a.split();

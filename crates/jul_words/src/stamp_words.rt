@@ -1,9 +1,9 @@
 //! Words that are stamped with rounds, each by one fetch-max.
-ghost use Rattle.std.specs.Prelude.{◌≡◌, ℕ, ◌+◌, ◌<◌, ◌≤◌, [], length, replicate, true, false, nat_lt, IfOk};
+ghost use Rattle.std.specs.Prelude.{◌≡◌, ℕ, ◌+◌, ◌<◌, ◌≤◌, [], true, false, nat_lt, IfOk};
 ghost use Rattle.jul_base.specs.declared.limits.TheConstants.{MAX_N};
 ghost use Rattle.jul_base.specs.Logs.{STAMP};
 ghost use Rattle.jul_words.specs.Weights.{counted};
-ghost use Rattle.jul_words.specs.Seats.{IsSeatOf, IsWord, IsAlone, AtMoment, home, rooted, beside, lent, joined, logs, entry};
+ghost use Rattle.jul_words.specs.Seats.{IsSeatOf, IsWord, IsAlone, AtMoment, zeros, rooted, beside, lent, joined, logs, entry};
 ghost use Rattle.jul_words.specs.Stamps.{IsGreatest, AllFirsts, StampWordsRule, Loads, StampsOn, Met, greatest};
 
 use crate::tables::{AfterFirst, Key, Meaning, WordSeat, Words};
@@ -40,10 +40,12 @@ impl Play<(), View> for Stamp {
 }
 
 impl Words<Greatest> {
-    /// A table of `count` words that are 0, and its root seat. Memory that runs out is the only refusal.
+    /// A table of `count` words that are 0, and its root seat.
+    ///
+    /// Memory that runs out is the only refusal.
     pub fn open(alloc: Global, count: u32) -> Result<(StampWords, StampSeat), AllocError>
         requires { count ≤ MAX_N }
-        ensures { IfOk result (λ r. r.1 ≡ rooted (home r.0 (replicate count 0) (replicate count 0))) }
+        ensures { IfOk result (λ r. r.1 ≡ rooted (zeros r.0 count)) }
     {
         let words = vec![in alloc; 0u64; count as usize + 1]?;
         let key = Key {

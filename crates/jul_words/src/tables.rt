@@ -83,14 +83,14 @@ pub struct WordSeat<P: Meaning> {
 }
 
 impl<P: Meaning> Model for WordSeat<P> {
-    ghost use Rattle.std.specs.Prelude.{◌≡◌, ◌+◌, [], true, length};
     ghost use Rattle.jul_words.specs.Seats.{Seat, named, name_of};
+    ghost use Rattle.jul_words.specs.Ruled.{IsSeated};
 
     ghost Value = { Seat };
 
     ghost view = { λ s. named (name_of s.seat.table_id) s.seat.me.0.seat };
 
-    ghost invariant = { λ s. (s.seat.me.1 ≡ []) × (s.seat.me.0.live ≡ true) × (s.seat.table_id.words ≡ length s.seat.me.0.seat.home.starts + 1) };
+    ghost invariant = { λ s. IsSeated s.seat.table_id.words s.seat.me };
 }
 
 impl<P: Meaning> Words<P> {
