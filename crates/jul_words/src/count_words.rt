@@ -61,7 +61,8 @@ impl Words<Count> {
     /// Memory that runs out is the only refusal.
     pub fn open(alloc: Global, count: u32) -> Result<(CountWords, CountSeat), AllocError>
         requires { count ≤ MAX_N }
-        ensures { IfOk result (λ r. r.1 ≡ rooted (zeros r.0 count)) }
+        ensures root { IfOk result (λ r. r.1 ≡ rooted (zeros r.0 count)) }
+        ensures settled { IfOk result (λ r. AreTallies r.1.home r.1.log) }
     {
         let words = vec![in alloc; 0u64; count as usize + 1]?;
         let key = Key {

@@ -58,7 +58,8 @@ impl Words<Least> {
     ) -> Result<(MinWords, MinSeat), AllocError>
         requires count { length start.now ≤ MAX_N }
         requires floors { AreFloorsOf start.now (F.numbers floors.now) }
-        ensures { IfOk result (λ r. r.1 ≡ rooted (home r.0 start.now (F.numbers floors.now))) }
+        ensures root { IfOk result (λ r. r.1 ≡ rooted (home r.0 start.now (F.numbers floors.now))) }
+        ensures settled { IfOk result (λ r. IsSettled r.1.home r.1.log) }
     {
         let mut words = Vec::with_capacity(alloc, start.len() + 1)?;
         words.push_reserved(0);
