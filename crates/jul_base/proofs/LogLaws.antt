@@ -1,5 +1,5 @@
 -- Logs with parts: what one followed by another gives.
-use Rattle.std.proofs.Common.{◌≡◌, ℕ, ◌+◌, List, [], ◌∷◌, ◌++◌, length, length-append, refl, ap, arith, append_assoc}
+use Rattle.std.proofs.Common.{◌≡◌, List, [], ◌∷◌, ◌++◌, length, refl, ap, arith, append_assoc}
 use Rattle.jul_base.specs.Logs.{Log, Home, followed_by, empty_log}
 
 -- a log that is followed by one with no part is unchanged
@@ -22,10 +22,6 @@ followed_by-append [] [] ys vs e = refl
 followed_by-append [] (u ∷ us) ys vs e = absurd (omega arith)
 followed_by-append (x ∷ xs) [] ys vs e = absurd (omega arith)
 followed_by-append (x ∷ xs) (u ∷ us) ys vs e = ap (λ l. (x ++ u) ∷ l) (followed_by-append xs us ys vs (omega arith))
-
--- how many parts two pieces have together
-pub parts-append : {X : Type 0} (xs ys : List X) (m n : ℕ) → length xs ≡ m → length ys ≡ n → length (xs ++ ys) ≡ m + n
-parts-append xs ys m n p q = omega (arith, length-append xs ys, p, q)
 
 pub empty_log-append : (hs ks : List Home) → empty_log (hs ++ ks) ≡ empty_log hs ++ empty_log ks
 empty_log-append [] ks = refl

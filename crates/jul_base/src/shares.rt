@@ -1,15 +1,14 @@
 //! Tokens that are cut into parts for threads, and put together again.
 //!
-//! What a thread does to shared words is logged in the token through which it does it. The root token
-//! is split, each thread is lent a part, and once all are joined the root's log has what everyone did.
+//! What a thread does to shared words is logged in the token through which it does it. The root token is split,
+//! each thread is lent a part, and once all parts are joined the root's log has what everyone did.
 ghost use Rattle.std.specs.Prelude.{◌≡◌, ℕ, ◌+◌, ◌<◌, Bool, true, false, refl, List, [], length};
 ghost use Rattle.jul_base.specs.Logs.{Log, Home, followed_by, empty_log};
 
 /// What a thread is lent a part of.
 ///
-/// Contracts see its log, its home, whether it is the root, and of a root how many parts are out.
-/// Tokens with equal homes are kin. Log and home have a part for each table that the token stands for.
-/// No call changes a home.
+/// Contracts see its log, its home, whether it is the root, and of a root how many parts are out. Tokens with
+/// equal homes are kin. Log and home have a part for each table that the token stands for. No call changes a home.
 pub trait Share: Sized + Send + Drop {
     // How many parts its log and its home have.
     ghost parts: { ℕ };

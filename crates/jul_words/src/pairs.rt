@@ -1,6 +1,6 @@
 //! Two tokens as one.
 ghost use Rattle.std.specs.Prelude.{◌≡◌, ◌+◌, ◌++◌, true, length};
-ghost use Rattle.jul_base.proofs.LogLaws.{parts-append};
+ghost use Rattle.std.proofs.Common.{length-append, ◌∙◌};
 
 use jul_base::Share;
 
@@ -26,9 +26,9 @@ impl<A: Share, B: Share> Share for Both<A, B> {
 
     ghost out = { λ x. A.out x.a };
 
-    ghost log_has_parts = { λ x. parts-append _ _ _ _ (A.log_has_parts x.a) (B.log_has_parts x.b) };
+    ghost log_has_parts = { λ x. length-append _ _ ∙ (λ i. A.log_has_parts x.a i + B.log_has_parts x.b i) };
 
-    ghost home_has_parts = { λ x. parts-append _ _ _ _ (A.home_has_parts x.a) (B.home_has_parts x.b) };
+    ghost home_has_parts = { λ x. length-append _ _ ∙ (λ i. A.home_has_parts x.a i + B.home_has_parts x.b i) };
 
     fn split(&mut self) -> Both<A, B> {
         let a = self.a.split();
