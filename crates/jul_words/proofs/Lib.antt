@@ -1,0 +1,13 @@
+pub mod Sums
+pub mod Kinship
+pub mod Living
+pub mod Ruling
+pub mod Names
+pub mod Marking
+pub mod Minima
+pub mod Lowering
+pub mod Tallies
+pub mod Counting
+pub mod Maxima
+pub mod Stamping
+pub mod Appending

@@ -1,0 +1,10 @@
+pub mod Seats
+pub mod Weights
+pub mod Views
+pub mod Ruled
+pub mod Marks
+pub mod Keys
+pub mod Least
+pub mod Counts
+pub mod Stamps
+pub mod Lowerings
