@@ -23,7 +23,8 @@ fn take_in<J: Job, G: Gate>(
     requires root_seat { seat.old.me.0.root ≡ 1 }
     requires root { J.Token.is_root token.old ≡ true }
     requires some_out { 0 < J.Token.out token.old }
-    requires worked { IsWorked J.Token.log J.Token.home J.Token.is_root round.now (J.Token.home token.old) J.gives worked }
+    requires worked { IsWorked J.Token.log J.Token.home J.Token.is_root
+        round.now (J.Token.home token.old) J.gives worked }
 
     ensures table { seat.new.table_id ≡ seat.old.table_id }
     ensures root_seat { seat.new.me.0.root ≡ 1 }
@@ -60,8 +61,8 @@ pub fn gather<J: Job, G: Gate>(
     requires none_claimed { seat.old.me.0.claimed ≡ [] }
     requires root { J.Token.is_root token.old ≡ true }
     requires out { J.Token.out token.old ≡ vec_len worked }
-    requires worked { All (λ one. IfOk one
-        (IsWorked J.Token.log J.Token.home J.Token.is_root round.now (J.Token.home token.old) J.gives)) worked.items }
+    requires worked { All (λ one. IfOk one (IsWorked J.Token.log J.Token.home J.Token.is_root
+        round.now (J.Token.home token.old) J.gives)) worked.items }
 
     ensures table { OnOk result (seat.new.table_id ≡ seat.old.table_id) }
     ensures root_seat { OnOk result (seat.new.me.0.root ≡ 1) }

@@ -60,17 +60,19 @@ pub fn run_workers<R: Threads + Sync, J: Job, G: Gate>(
     root: &J::Token,
     lent: Vec<Lent<J::Token>>,
 ) -> Result<Vec<Result<Worked<J::Token, J::Out>, AllocError>>, AllocError>
-    requires lent { All (IsLent J.Token.log J.Token.home J.Token.is_root round.now (J.Token.home root.now)) lent.items }
+    requires lent { All
+        (IsLent J.Token.log J.Token.home J.Token.is_root round.now (J.Token.home root.now)) lent.items }
     requires condition { (chunk : ℕ) → chunk < round.now.chunks →
         J.can_run round.now.job.now chunk (J.Token.home root.now) }
 
     ensures count { IfOk result (λ v. vec_len v ≡ vec_len lent) }
-    ensures worked { IfOk result (λ v. All (λ one. IfOk one
-        (IsWorked J.Token.log J.Token.home J.Token.is_root round.now (J.Token.home root.now) J.gives)) v.items) }
+    ensures worked { IfOk result (λ v. All (λ one. IfOk one (IsWorked J.Token.log J.Token.home J.Token.is_root
+        round.now (J.Token.home root.now) J.gives)) v.items) }
 {
     let run = |one: Lent<J::Token>| -> Result<Worked<J::Token, J::Out>, AllocError>
         requires { IsLent J.Token.log J.Token.home J.Token.is_root round.now (J.Token.home one.token) one
-            × ((chunk : ℕ) → chunk < round.now.chunks → J.can_run round.now.job.now chunk (J.Token.home one.token)) }
+            × ((chunk : ℕ) → chunk < round.now.chunks →
+            J.can_run round.now.job.now chunk (J.Token.home one.token)) }
         ensures { IfOk result
             (IsWorked J.Token.log J.Token.home J.Token.is_root round.entry.now (J.Token.home one.token) J.gives) }
     { work(round, one) };

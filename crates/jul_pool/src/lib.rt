@@ -14,6 +14,8 @@ mod lending;
 mod running;
 mod settling;
 mod teams;
+#[cfg(test)]
+mod tests;
 mod workers;
 
 pub use jobs::{Job, RunOut};

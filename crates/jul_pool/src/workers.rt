@@ -40,9 +40,11 @@ pub fn work<J: Job, G: Gate>(
     lent: Lent<J::Token>,
 ) -> Result<Worked<J::Token, J::Out>, AllocError>
     requires lent { IsLent J.Token.log J.Token.home J.Token.is_root round.now (J.Token.home lent.token) lent }
-    requires condition { (chunk : ℕ) → chunk < round.now.chunks → J.can_run round.now.job.now chunk (J.Token.home lent.token) }
+    requires condition { (chunk : ℕ) → chunk < round.now.chunks →
+        J.can_run round.now.job.now chunk (J.Token.home lent.token) }
 
-    ensures { IfOk result (IsWorked J.Token.log J.Token.home J.Token.is_root round.now (J.Token.home lent.token) J.gives) }
+    ensures { IfOk result
+        (IsWorked J.Token.log J.Token.home J.Token.is_root round.now (J.Token.home lent.token) J.gives) }
 {
     let Lent {
         number,
