@@ -1,4 +1,4 @@
-use Rattle.std.proofs.Common.{◌≡◌, ◌∙◌, sym, arith, IfOk, IfSome, subst}
+use Rattle.std.proofs.Common.{◌∙◌, sym, arith, IfOk, IfSome, subst}
 use Rattle.std.proofs.lemmas.List.Elements.{All-pop}
 use Rattle.jul_pool.specs.Workers.{IsWorked}
 use Rattle.jul_pool.proofs.GatheringLaws.{did_append, claims_more, ended_more}

@@ -1,5 +1,4 @@
 use Rattle.std.proofs.Common.{arith, vec_len, sym, ◌∙◌}
-use Rattle.jul_pool.specs.Times.{EachOnceBelow}
 use Rattle.jul_pool.proofs.GatheringLaws.{each_once_done, ran_from_did}
 use Rattle.jul_pool.proofs.running.run_together.Goals as goal
 
