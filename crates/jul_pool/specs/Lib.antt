@@ -1,0 +1,5 @@
+pub mod Times
+pub mod Added
+pub mod Claims
+pub mod Runs
+pub mod Workers
