@@ -14,3 +14,5 @@ pub mod InRowLaws
 pub mod SymmetryLaws
 pub mod SetLaws
 pub mod SmallGraphs
+pub mod PeelLaws
+pub mod RoundRows

@@ -13,3 +13,7 @@ pub mod Logs
 pub mod InRows
 pub mod Symmetry
 pub mod Sets
+pub mod Coreness
+pub mod Levels
+pub mod Trees
+pub mod CoverRounds
