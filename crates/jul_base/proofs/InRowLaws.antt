@@ -1,16 +1,16 @@
 -- In-rows: which places they hold, and how often a vertex stands among the sources.
-use Rattle.std.proofs.Common.{◌≡◌, ℕ, zero, suc, ◌+◌, ◌-◌, ◌<◌, ◌≤◌, List, [], ◌∷◌, ◌++◌, length, get_or, cond, Bool, true, false, ◌&&◌, eqb, ltb, leb, sym, ◌∙◌, ap, refl, arith, inl, inr}
+use Rattle.std.proofs.Common.{◌≡◌, ℕ, zero, suc, ◌+◌, ◌-◌, ◌<◌, ◌≤◌, List, [], ◌∷◌, length, get_or, cond, Bool, true, false, ◌&&◌, eqb, ltb, leb, sym, ◌∙◌, ap, refl, arith, inl, inr}
 use Rattle.std.specs.List.{filter, count_by, slice_range, Contains}
 use Rattle.std.specs.List.Sorted.{IsStrictlyIncreasing}
 use Rattle.std.proofs.lemmas.List.Elements.{Contains-get_or}
 use Rattle.std.proofs.lemmas.List.Kept.{IsStrictlyIncreasing-filter}
-use Rattle.std.proofs.lemmas.Bool.{cases_Bool, cases_lt, cases_eq, eq-eqb, eqb-true, ne_eqb, le-leb, lt-leb, lt-ltb, le-ltb, leb-true, ltb-true, and_parts, and_from, and_left, and_right, false_from_ne_true}
+use Rattle.std.proofs.lemmas.Bool.{cases_eq, eq-eqb, eqb-true, ne_eqb, le-leb, lt-leb, lt-ltb, le-ltb, leb-true, ltb-true, and_parts, and_from, and_left, and_right, false_from_ne_true}
 use Rattle.std.proofs.lemmas.List.Sums.{sum_by-append, sum_by-cons, sum_by_push, length-filter, count_by-le-length}
 use Rattle.std.proofs.lemmas.List.FromFn.{length-range_with_len}
 use Rattle.std.proofs.lemmas.List.Edits.{between_more, between_none}
 use Rattle.jul_base.specs.declared.graphs.RawGraph.{RawGraph}
 use Rattle.jul_base.specs.Numbers.{below}
-use Rattle.jul_base.specs.Graph.{vertices, places, target, row, row_start, row_end, count, IsPlaceOf, IsLawful}
+use Rattle.jul_base.specs.Graph.{vertices, places, target, row_start, row_end, count, IsPlaceOf, IsLawful}
 use Rattle.jul_base.specs.InRows.{in_places, AreSources}
 use Rattle.jul_base.proofs.GraphLaws.{row_end-le, row_start-le-row_end}
 use Rattle.jul_base.proofs.RowLaws.{IsPlaceOf-unique}

@@ -1,11 +1,11 @@
 -- Parts of lists, and the numbers below a bound.
-use Rattle.std.proofs.Common.{◌≡◌, ◌≢◌, ℕ, ◌+◌, ◌-◌, ◌<◌, ◌≤◌, ◌⊎◌, List, [], ◌∷◌, ◌++◌, length, get_or, set, take, drop, map, cond, Bool, true, false, sym, ◌∙◌, ap, subst, refl, arith, inl, inr, eqb, ltb}
-use Rattle.std.specs.List.{range_with_len, slice_range, filter, count_by}
-use Rattle.std.proofs.lemmas.List.{take-set-le, drop-set-lt, get_or-set_same, get_or-set_other, length-set, map-id}
-use Rattle.std.proofs.lemmas.List.Edits.{between_more, between_none}
+use Rattle.std.proofs.Common.{◌≡◌, ℕ, ◌+◌, ◌-◌, ◌<◌, ◌≤◌, ◌⊎◌, List, [], ◌∷◌, ◌++◌, length, get_or, set, take, drop, cond, Bool, sym, ◌∙◌, ap, arith, inl, inr}
+use Rattle.std.specs.List.{slice_range, filter}
+use Rattle.std.proofs.lemmas.List.{take-set-le, drop-set-lt, get_or-set_same, length-set, map-id}
+use Rattle.std.proofs.lemmas.List.Edits.{between_more}
 use Rattle.std.proofs.lemmas.Slice.{between_is}
 use Rattle.std.proofs.lemmas.List.Elements.{filter-append}
-use Rattle.std.proofs.lemmas.List.FromFn.{length-range_with_len, get_or-range_with_len, map-range_with_len_more}
+use Rattle.std.proofs.lemmas.List.FromFn.{map-range_with_len_more}
 use Rattle.jul_base.specs.Numbers.{below}
 
 -- one number more

@@ -1,6 +1,6 @@
 -- Sets as increasing lists: one list is determined by what it holds.
-use Rattle.std.proofs.Common.{◌≡◌, ◌≢◌, ℕ, zero, suc, ◌+◌, ◌<◌, ◌≤◌, ◌⊎◌, ◌↔◌, List, [], ◌∷◌, ◌++◌, length, get_or, map, cond, Bool, true, false, eqb, sym, ◌∙◌, ap, subst, refl, arith, inl, inr}
-use Rattle.std.specs.List.{filter, list_any, Contains, range_with_len, AllPairs}
+use Rattle.std.proofs.Common.{◌≡◌, ℕ, zero, suc, ◌+◌, ◌<◌, ◌⊎◌, List, [], ◌∷◌, length, get_or, Bool, true, eqb, sym, ◌∙◌, ap, subst, refl, arith, inl, inr}
+use Rattle.std.specs.List.{filter, Contains, AllPairs}
 use Rattle.std.specs.List.Sorted.{IsStrictlyIncreasing}
 use Rattle.std.proofs.lemmas.Bool.{eq-eqb, eqb-true, cases_Bool}
 use Rattle.std.proofs.lemmas.List.Elements.{Contains-get_or}
