@@ -1,11 +1,10 @@
 -- The first asymmetric place, row by row.
-use Rattle.std.proofs.Common.{◌≡◌, ℕ, ◌+◌, ◌-◌, ◌<◌, ◌≤◌, ◌⊎◌, List, [], length, get_or, eqb, sym, ◌∙◌, ap, subst, refl, arith, inl, inr}
-use Rattle.std.specs.List.{count_by}
+use Rattle.std.proofs.Common.{◌≡◌, ℕ, ◌+◌, ◌-◌, ◌<◌, ◌≤◌, List, length, get_or, ◌∙◌, ap, subst, arith, inl, inr}
 use Rattle.std.proofs.lemmas.Bool.{cases_order, cases_lt}
 use Rattle.jul_base.specs.declared.graphs.RawGraph.{RawGraph}
-use Rattle.jul_base.specs.Graph.{vertices, places, target, row, row_start, row_end, count, IsPlaceOf, IsLawful}
+use Rattle.jul_base.specs.Graph.{vertices, target, row, row_start, count, IsPlaceOf, IsLawful}
 use Rattle.jul_base.specs.InRows.{in_places, AreSources}
-use Rattle.jul_base.specs.Symmetry.{IsSymmetric, IsAsymmetricPlace, IsFirstAsymmetricPlace}
+use Rattle.jul_base.specs.Symmetry.{IsSymmetric, IsFirstAsymmetricPlace}
 use Rattle.jul_base.proofs.GraphLaws.{target_in_range, place_in_range}
 use Rattle.jul_base.proofs.RowLaws.{row_end-le-row_start, length-row, row-at, IsPlaceOf-at}
 use Rattle.jul_base.proofs.InRowLaws.{count_in_row}

@@ -1,25 +1,23 @@
 -- Sets that are gathered row by row: one set more, and all sets.
-use Rattle.std.proofs.Common.{◌≡◌, ◌≢◌, ◌↔◌, ℕ, zero, suc, ◌+◌, ◌-◌, ◌<◌, ◌≤◌, ◌⊎◌, Bool, List, [], ◌∷◌, ◌++◌, length, get_or, take, drop, map, true, false, eqb, sym, ◌∙◌, ap, subst, refl, arith, inl, inr}
-use Rattle.std.specs.Bool.{IsTrue}
-use Rattle.std.specs.List.{slice_range, filter, list_any, All, Contains, dedup}
-use Rattle.std.specs.List.Sorted.{IsPermutation, IsSorted, IsStrictlyIncreasing}
+use Rattle.std.proofs.Common.{◌≡◌, ℕ, zero, suc, ◌+◌, ◌-◌, ◌<◌, ◌≤◌, Bool, List, [], ◌∷◌, ◌++◌, length, get_or, take, drop, true, false, eqb, sym, ◌∙◌, ap, subst, refl, arith, inl, inr}
+use Rattle.std.specs.List.{slice_range, filter, All, Contains, dedup}
+use Rattle.std.specs.List.Sorted.{IsPermutation, IsSorted}
 use Rattle.std.specs.Ordering.{nat_cmp}
-use Rattle.std.proofs.lemmas.Bool.{cases_eq, cases_lt}
-use Rattle.std.proofs.lemmas.List.{take-append-le, take_all, drop_at, length-append, get_or_append_left, get_or_push, length_push, ext_get_or, get_or_default}
-use Rattle.std.proofs.lemmas.List.Edits.{get_or-between, length-between}
+use Rattle.std.proofs.lemmas.Bool.{cases_lt}
+use Rattle.std.proofs.lemmas.List.{take-append-le, take_all, drop_at, length-append, get_or_append_left, get_or_push, length_push, ext_get_or}
+use Rattle.std.proofs.lemmas.List.Edits.{get_or-between}
 use Rattle.std.proofs.lemmas.List.Elements.{All-contains, Contains-get_or}
 use Rattle.std.proofs.lemmas.List.Kept.{IsStrictlyIncreasing-filter, Contains-dedup_nat, Contains-from_dedup}
 use Rattle.std.proofs.lemmas.List.Sorted.{IsPermutation-sym, Contains-permutation}
 use Rattle.std.proofs.lemmas.Map.Keys.{IsStrictlyIncreasing-dedup}
 use Rattle.std.proofs.lemmas.Slice.{between_is}
 use Rattle.jul_base.specs.declared.graphs.RawGraph.{RawGraph}
-use Rattle.jul_base.specs.declared.limits.TheConstants.{MAX_N}
 use Rattle.jul_base.specs.Numbers.{below}
-use Rattle.jul_base.specs.Graph.{vertices, places, row, row_start, row_end, IsLawful}
-use Rattle.jul_base.specs.Sets.{has, set_of, sets_of, AreSets, IsElementOf}
+use Rattle.jul_base.specs.Graph.{vertices, row, row_end, IsLawful}
+use Rattle.jul_base.specs.Sets.{has, set_of, sets_of, IsElementOf}
 use Rattle.jul_base.proofs.GraphLaws.{row_end-le, row_end-next, row_start-le-row_end}
 use Rattle.jul_base.proofs.RowLaws.{length-row}
-use Rattle.jul_base.proofs.SetLaws.{increasing_unique, Contains-from_has, has-from_Contains, Contains-filter, Contains-from_filter, Contains-below, IsStrictlyIncreasing-below, length-sets_of, get_or-sets_of, set_of-below, AreSets-sets_of}
+use Rattle.jul_base.proofs.SetLaws.{increasing_unique, Contains-from_has, has-from_Contains, Contains-filter, Contains-from_filter, Contains-below, IsStrictlyIncreasing-below, length-sets_of, get_or-sets_of, set_of-below}
 use Rattle.jul_rows.specs.Cuts.{part, parts, IsCut}
 use Rattle.jul_rows.specs.Gathering.{IsGathered, AreMarks}
 use Rattle.jul_rows.proofs.CutLaws.{length-parts, get_or-parts, length-part}

@@ -1,10 +1,9 @@
-use Rattle.std.proofs.Common.{◌≡◌, ℕ, ◌+◌, ◌<◌, ◌≤◌, List, [], ◌++◌, length, eqb, sym, ◌∙◌, ap, subst, arith}
-use Rattle.std.specs.List.{All, dedup}
+use Rattle.std.proofs.Common.{◌≡◌, ℕ, ◌<◌, List, ◌++◌, length, eqb, ◌∙◌, ap, subst, arith}
+use Rattle.std.specs.List.{All}
 use Rattle.std.specs.List.Sorted.{IsPermutation}
 use Rattle.std.proofs.lemmas.List.Filters.{dedup_is}
 use Rattle.std.proofs.lemmas.List.Elements.{All-from_get_or}
 use Rattle.jul_base.specs.Graph.{vertices, row}
-use Rattle.jul_base.specs.Sets.{set_of}
 use Rattle.jul_rows.proofs.GatheringLaws.{dedup_is_set}
 use Rattle.jul_rows.proofs.distinct.distinct_targets.Goals as goal
 

@@ -1,6 +1,4 @@
-use Rattle.std.proofs.Common.{◌≡◌, ℕ, ◌+◌, ◌<◌, ◌≤◌, List, [], ◌∷◌, ◌++◌, length, sym, ◌∙◌, ap, arith}
-use Rattle.jul_base.specs.Graph.{row}
-use Rattle.jul_base.specs.Sets.{set_of}
+use Rattle.std.proofs.Common.{◌≡◌, ℕ, ◌+◌, List, [], ◌∷◌, ◌++◌, length, ◌∙◌, ap, arith}
 use Rattle.jul_rows.proofs.GatheringLaws.{IsGathered-more}
 use Rattle.jul_rows.proofs.distinct.gather.Goals as goal
 

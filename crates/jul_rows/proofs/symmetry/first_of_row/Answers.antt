@@ -1,7 +1,7 @@
-use Rattle.std.proofs.Common.{◌≡◌, ℕ, ◌+◌, ◌<◌, ◌≤◌, List, [], length, get_or, sym, ◌∙◌, ap, subst, arith}
+use Rattle.std.proofs.Common.{ℕ, ◌+◌, ◌<◌, ◌≤◌, List, length, get_or, sym, ◌∙◌, subst, arith}
 use Rattle.std.proofs.lemmas.List.{get_or_default}
 use Rattle.jul_base.specs.declared.graphs.RawGraph.{RawGraph}
-use Rattle.jul_base.specs.Graph.{vertices, places, row, row_start}
+use Rattle.jul_base.specs.Graph.{row}
 use Rattle.jul_base.proofs.InRowLaws.{length-in_places}
 use Rattle.jul_rows.specs.Balance.{IsTallyOf, IsFirstOfRow, IsFirstExcess}
 use Rattle.jul_rows.proofs.BalanceLaws.{IsBalancedRow-from_tallies, IsFirstOfRow-from_excess}

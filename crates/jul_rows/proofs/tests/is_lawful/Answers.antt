@@ -1,4 +1,4 @@
-use Rattle.std.proofs.Common.{◌≡◌, ℕ, ◌+◌, ◌<◌, ◌≤◌, List, length, get_or, refl, ap, arith}
+use Rattle.std.proofs.Common.{◌≡◌, ℕ, ◌+◌, List, length, get_or, refl, ap, arith}
 use Rattle.jul_base.specs.Graph.{vertices, places}
 use Rattle.jul_rows.proofs.tests.is_lawful.Goals as goal
 

@@ -1,4 +1,4 @@
-use Rattle.std.proofs.Common.{◌≡◌, ◌-◌, length, sym, ◌∙◌, ap, arith, List, ℕ}
+use Rattle.std.proofs.Common.{length, ap, arith}
 use Rattle.jul_base.specs.InRows.{InEdges}
 use Rattle.jul_rows.proofs.CutLaws.{length-parts}
 use Rattle.jul_rows.proofs.in_rows.InRows.n.Goals as goal

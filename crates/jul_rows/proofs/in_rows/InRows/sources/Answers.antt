@@ -1,4 +1,4 @@
-use Rattle.std.proofs.Common.{◌≡◌, ◌+◌, ◌-◌, ◌<◌, [], length, get_or, sym, ◌∙◌, ap, refl, arith, List, ℕ}
+use Rattle.std.proofs.Common.{◌≡◌, ◌+◌, ◌<◌, [], length, get_or, sym, ◌∙◌, ap, refl, arith, List, ℕ}
 use Rattle.jul_base.specs.InRows.{InEdges}
 use Rattle.jul_rows.specs.Cuts.{part, parts}
 use Rattle.jul_rows.proofs.CutLaws.{length-parts, get_or-parts, length-part}

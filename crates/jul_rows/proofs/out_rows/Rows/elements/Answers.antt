@@ -1,8 +1,8 @@
-use Rattle.std.proofs.Common.{◌≡◌, ℕ, ◌<◌, ◌≤◌, List, length, get_or, false, sym, ◌∙◌, ap, subst, arith}
+use Rattle.std.proofs.Common.{ℕ, ◌<◌, List, sym, ◌∙◌, ap, subst, arith}
 use Rattle.std.specs.List.{All}
 use Rattle.jul_base.specs.declared.graphs.RawGraph.{RawGraph}
 use Rattle.jul_base.specs.Graph.{vertices}
-use Rattle.jul_base.specs.Sets.{has, sets_of, AreSets}
+use Rattle.jul_base.specs.Sets.{has, AreSets}
 use Rattle.jul_base.proofs.SetLaws.{AreSets-sets_of}
 use Rattle.jul_rows.proofs.GatheringLaws.{parts_are_sets, items_below, AreMarks-from_items}
 use Rattle.jul_rows.proofs.out_rows.Rows.elements.Goals as goal

@@ -1,4 +1,4 @@
-use Rattle.std.proofs.Common.{ℕ, ◌<◌, ◌≤◌, arith}
+use Rattle.std.proofs.Common.{arith}
 use Rattle.jul_rows.proofs.BalanceLaws.{IsFirst-from_row, IsSymmetric-from_rows}
 use Rattle.jul_rows.proofs.out_rows.Rows.first_asymmetry.Goals as goal
 

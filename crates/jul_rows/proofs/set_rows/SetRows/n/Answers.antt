@@ -1,4 +1,4 @@
-use Rattle.std.proofs.Common.{◌≡◌, ℕ, List, length, ap, arith}
+use Rattle.std.proofs.Common.{ℕ, List, length, ap, arith}
 use Rattle.jul_rows.proofs.CutLaws.{length-parts}
 use Rattle.jul_rows.proofs.set_rows.SetRows.n.Goals as goal
 

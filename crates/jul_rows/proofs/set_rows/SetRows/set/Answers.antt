@@ -2,7 +2,7 @@ use Rattle.std.proofs.Common.{◌≡◌, ℕ, ◌+◌, ◌<◌, List, [], length
 use Rattle.std.specs.List.{All}
 use Rattle.std.specs.List.Sorted.{IsStrictlyIncreasing}
 use Rattle.jul_base.specs.Sets.{AreSets}
-use Rattle.jul_rows.specs.Cuts.{part, parts}
+use Rattle.jul_rows.specs.Cuts.{part}
 use Rattle.jul_rows.proofs.CutLaws.{length-parts, get_or-parts}
 use Rattle.jul_rows.proofs.set_rows.SetRows.set.Goals as goal
 
