@@ -1,0 +1,6 @@
+pub mod Subsets
+pub mod Marks
+pub mod Views
+pub mod Lists
+pub mod Chunks
+pub mod Applications

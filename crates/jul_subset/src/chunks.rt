@@ -1,0 +1,32 @@
+//! Lists cut into chunks, and the results of chunks put together.
+ghost use Rattle.std.specs.Prelude.{◌≡◌, ◌*◌, ◌<◌, IfOk, length};
+ghost use Rattle.std.specs.List.{flat_map};
+ghost use Rattle.jul_subset.specs.Chunks.{chunk_of};
+
+use std::alloc::{AllocError, Global};
+
+/// The part of `ids` that chunk `n` has, where each but the last has `size` members.
+#[inline]
+pub fn chunk_at(ids: &[u32], size: usize, n: usize) -> &[u32]
+    requires { n * size < length ids.now }
+
+    ensures { result.now ≡ chunk_of ids.now size n }
+{
+    let (_, rest) = ids.split_at(n * size);
+    if rest.len() < size {
+        return rest;
+    }
+    let (members, _) = rest.split_at(size);
+    members
+}
+
+/// The lists of all chunks, one after another.
+pub fn joined(alloc: Global, outs: &Vec<Vec<u32>>) -> Result<Vec<u32>, AllocError>
+    ensures { IfOk result (λ ids. ids.items ≡ flat_map (λ out. out.items) outs.now.items) }
+{
+    let mut ids = Vec::new(alloc);
+    for out in outs {
+        ids.extend_from_slice(out.as_slice())?;
+    }
+    Ok(ids)
+}
