@@ -1,0 +1,6 @@
+pub mod IncreasingLaws
+pub mod MarkLaws
+pub mod ListLaws
+pub mod ChunkLaws
+pub mod ApplicationLaws
+pub mod PickingLaws
