@@ -1,5 +1,6 @@
 pub mod IncreasingLaws
 pub mod MarkLaws
+pub mod ViewLaws
 pub mod ListLaws
 pub mod ChunkLaws
 pub mod ApplicationLaws

@@ -4,7 +4,7 @@ use Rattle.std.specs.Prelude.{Contains}
 use Rattle.std.specs.List.{filter}
 use Rattle.std.specs.List.Sorted.{IsStrictlyIncreasing}
 use Rattle.std.proofs.lemmas.Bool.{cases_lt, cases_eq}
-use Rattle.std.proofs.lemmas.List.{get_or_past, get_or-replicate, length-replicate, take_more, append-nil}
+use Rattle.std.proofs.lemmas.List.{get_or_past, get_or-replicate, length-replicate, take_more, append-nil, get_or_default}
 use Rattle.std.proofs.lemmas.List.Elements.{Contains-get_or, Contains-push, Contains-push_cases, Contains-append_left, All-contains}
 use Rattle.std.proofs.lemmas.List.Kept.{IsStrictlyIncreasing-filter}
 use Rattle.jul_base.specs.Numbers.{below}
@@ -88,3 +88,11 @@ marked_more marks v is = filter_below-more (mark_at marks) v ∙ ap (λ c. filte
 pub unmarked_more : (marks : List Bool) (v : ℕ) → mark_at marks v ≡ false → filter (mark_at marks) (below (v + 1)) ≡ filter (mark_at marks) (below v)
 unmarked_more marks v is =
     filter_below-more (mark_at marks) v ∙ ap (λ c. filter (mark_at marks) (below v) ++ cond c (v ∷ []) []) is ∙ append-nil (filter (mark_at marks) (below v))
+
+-- what is read at a vertex says whether it is marked
+pub mark_says : (marks : List Bool) (v : ℕ) (b : Bool) → b ≡ get_or marks v b → v < length marks → (b ≡ true) ↔ Contains (marked marks) v
+mark_says marks v b read lt =
+    let m : mark_at marks v ≡ b = get_or_default marks v false b lt ∙ sym read in (
+      (λ t. Contains-marked marks v (m ∙ t)),
+      (λ h. sym m ∙ mark-from_Contains marks v h),
+    )
