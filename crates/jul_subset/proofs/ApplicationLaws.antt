@@ -59,12 +59,11 @@ module _ {X : Type 0} (gives : X → Bool → Log → Type 0) (vertex : X → �
   NotesChunk chunk out added = (done : List (Done X)) × AppliedInOrder gives (wanted chunk) [] added done × (out.items ≡ answered_true vertex done)
 
   -- what stands at an index weighs
-  weight_at : (ℕ → ℕ) → Option (Vec ℕ Global) → ℕ
+  abbrev pub weight_at : (ℕ → ℕ) → Option (Vec ℕ Global) → ℕ
   weight_at h None = 0
   weight_at h (Some out) = sum_by h out.items
 
   weight_at-some : (h : ℕ → ℕ) (out : Vec ℕ Global) (o : Option (Vec ℕ Global)) → o ≡ Some out → weight_at h o ≡ sum_by h out.items
-  unfolding weight_at
   weight_at-some h out o e = ap (weight_at h) e
 
   -- the outs in order

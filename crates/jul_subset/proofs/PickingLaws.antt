@@ -70,8 +70,8 @@ rises_all (x ∷ xs) up = (omega arith, rises_behind x xs (AllPairs-from_increas
 increasing_again : (low : ℕ) (xs : List ℕ) → RisesFrom low xs → IsStrictlyIncreasing xs
 increasing_again low [] up k lt = absurd (omega arith)
 increasing_again low (x ∷ []) up k lt = absurd (omega arith)
-increasing_again low (x ∷ (y ∷ ys)) (first, second, up) zero lt = omega arith
-increasing_again low (x ∷ (y ∷ ys)) (first, second, up) (suc k) lt =
+increasing_again low (x ∷ (y ∷ ys)) (first, (second, up)) zero lt = omega arith
+increasing_again low (x ∷ (y ∷ ys)) (first, (second, up)) (suc k) lt =
     let e : suc k + 1 ≡ suc (k + 1) = omega arith in
     let rest : get_or (y ∷ ys) k 0 < get_or (y ∷ ys) (k + 1) 0 = increasing_again (x + 1) (y ∷ ys) (second, up) k (omega arith) in
     omega (arith, rest, ap (λ i. get_or (x ∷ (y ∷ ys)) i 0) e)
