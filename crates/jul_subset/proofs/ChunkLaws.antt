@@ -31,8 +31,8 @@ about k (x ∷ xs) h =
     ⊎_elim
     (λ (e : x ≡ k). record { front = []; back = xs; is = ap (λ y. y ∷ xs) e })
     (λ (ne : x ≡ k → ⊥).
-        let r = about k xs (omega (arith, times-append k (x ∷ []) xs, times_other k x (λ e. ne (sym e)), h)) in
-        record { front = x ∷ r.front; back = r.back; is = ap (λ l. x ∷ l) r.is })
+    let r = about k xs (omega (arith, times-append k (x ∷ []) xs, times_other k x (λ e. ne (sym e)), h)) in
+    record { front = x ∷ r.front; back = r.back; is = ap (λ l. x ∷ l) r.is })
     (cases_eq x k)
 
 times_about : (x k : ℕ) (front back : List ℕ) → times x (front ++ k ∷ back) ≡ times x (front ++ back) + times x (k ∷ [])
@@ -64,8 +64,8 @@ module _ {Out : Type 0} where
       ⊎_elim
       (λ (e : r.chunk ≡ i). (r, e, a 0 r (omega arith)))
       (λ (ne : r.chunk ≡ i → ⊥).
-          let others = map (λ (r : Run Out). r.chunk) runs in
-          run_of P runs i (omega (arith, times-append i (r.chunk ∷ []) others, times_other i r.chunk (λ e. ne (sym e)), h)) (λ k d lt. a (suc k) d (omega arith)))
+      let others = map (λ (r : Run Out). r.chunk) runs in
+      run_of P runs i (omega (arith, times-append i (r.chunk ∷ []) others, times_other i r.chunk (λ e. ne (sym e)), h)) (λ k d lt. a (suc k) d (omega arith)))
       (cases_eq r.chunk i)
 
   slice_get_below : (outs : List Out) (i : ℕ) (out : Out) → slice_get outs i ≡ Some out → i < length outs

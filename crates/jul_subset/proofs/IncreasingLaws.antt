@@ -38,10 +38,10 @@ apart xs up i j i_in j_in same =
     ⊎_elim
     (λ (less : i < j). let far : get_or xs i 0 < get_or xs j 0 = AllPairs-from_increasing xs up i j 0 less j_in in absurd (omega (arith, far, same)))
     (λ (past : j ≤ i).
-        ⊎_elim
-        (λ (less : j < i). let far : get_or xs j 0 < get_or xs i 0 = AllPairs-from_increasing xs up j i 0 less i_in in absurd (omega (arith, far, same)))
-        (λ (e : i ≤ j). omega arith)
-        (cases_lt j i))
+    ⊎_elim
+    (λ (less : j < i). let far : get_or xs j 0 < get_or xs i 0 = AllPairs-from_increasing xs up j i 0 less i_in in absurd (omega (arith, far, same)))
+    (λ (e : i ≤ j). omega arith)
+    (cases_lt j i))
     (cases_lt i j)
 
 -- where a search misses, x is no member

@@ -35,20 +35,20 @@ seen_more seen members ids i x rank up lt is rank_in rank_is s = record {
       let more : take (i + 1) ids ≡ take i ids ++ x ∷ [] = take_more ids i 0 lt ∙ ap (λ y. take i ids ++ y ∷ []) is in
       ⊎_elim
       (λ (same : r ≡ rank).
-          let y_is : get_or members r 0 ≡ x = ap (λ k. get_or members k 0) same ∙ rank_is in
-          let here : get_or (set seen rank true) rank false ≡ true = get_or-set_same seen rank true false (omega (arith, s.len)) in (
-            (λ m. subst P (sym more) (subst (Contains (take i ids ++ x ∷ [])) (sym y_is) (Contains-push (take i ids) x))),
-            (λ c. ap (λ k. get_or (set seen rank true) k false) same ∙ here),
-          ))
+      let y_is : get_or members r 0 ≡ x = ap (λ k. get_or members k 0) same ∙ rank_is in
+      let here : get_or (set seen rank true) rank false ≡ true = get_or-set_same seen rank true false (omega (arith, s.len)) in (
+        (λ m. subst P (sym more) (subst (Contains (take i ids ++ x ∷ [])) (sym y_is) (Contains-push (take i ids) x))),
+        (λ c. ap (λ k. get_or (set seen rank true) k false) same ∙ here),
+      ))
       (λ (ne : r ≡ rank → ⊥).
-          let kept : get_or (set seen rank true) r false ≡ get_or seen r false = get_or-set_other seen rank r true false ne in (
-            (λ m. subst P (sym more) (Contains-append_left (take i ids) (x ∷ []) (get_or members r 0) ((s.at r r_in).0 (sym kept ∙ m)))),
-            (λ c.
-                ⊎_elim
-                (λ (old : Contains (take i ids) (get_or members r 0)). kept ∙ (s.at r r_in).1 old)
-                (λ (e : x ≡ get_or members r 0). absurd (ne (apart members up r rank r_in rank_in (sym e ∙ sym rank_is))))
-                (Contains-push_cases (take i ids) x (get_or members r 0) (subst P more c))),
-          ))
+      let kept : get_or (set seen rank true) r false ≡ get_or seen r false = get_or-set_other seen rank r true false ne in (
+        (λ m. subst P (sym more) (Contains-append_left (take i ids) (x ∷ []) (get_or members r 0) ((s.at r r_in).0 (sym kept ∙ m)))),
+        (λ c.
+            ⊎_elim
+            (λ (old : Contains (take i ids) (get_or members r 0)). kept ∙ (s.at r r_in).1 old)
+            (λ (e : x ≡ get_or members r 0). absurd (ne (apart members up r rank r_in rank_in (sym e ∙ sym rank_is))))
+            (Contains-push_cases (take i ids) x (get_or members r 0) (subst P more c))),
+      ))
       (cases_eq r rank);
 }
 

@@ -66,18 +66,18 @@ set_for_more marks ids i x lt is x_in f v =
     let P : List ℕ → Type 0 = λ l. Contains l v in
     ⊎_elim
     (λ (same : v ≡ x). (
-        (λ m. subst P (sym more) (subst (Contains (take i ids ++ x ∷ [])) (sym same) (Contains-push (take i ids) x))),
-        (λ c. ap (λ w. get_or (set marks x true) w false) same ∙ here),
-      ))
+      (λ m. subst P (sym more) (subst (Contains (take i ids ++ x ∷ [])) (sym same) (Contains-push (take i ids) x))),
+      (λ c. ap (λ w. get_or (set marks x true) w false) same ∙ here),
+    ))
     (λ (ne : v ≡ x → ⊥).
-        let kept : get_or (set marks x true) v false ≡ get_or marks v false = get_or-set_other marks x v true false ne in (
-          (λ m. subst P (sym more) (Contains-append_left (take i ids) (x ∷ []) v ((f v).0 (sym kept ∙ m)))),
-          (λ c.
-              ⊎_elim
-              (λ (old : Contains (take i ids) v). kept ∙ (f v).1 old)
-              (λ (e : x ≡ v). absurd (ne (sym e)))
-              (Contains-push_cases (take i ids) x v (subst P more c))),
-        ))
+    let kept : get_or (set marks x true) v false ≡ get_or marks v false = get_or-set_other marks x v true false ne in (
+      (λ m. subst P (sym more) (Contains-append_left (take i ids) (x ∷ []) v ((f v).0 (sym kept ∙ m)))),
+      (λ c.
+          ⊎_elim
+          (λ (old : Contains (take i ids) v). kept ∙ (f v).1 old)
+          (λ (e : x ≡ v). absurd (ne (sym e)))
+          (Contains-push_cases (take i ids) x v (subst P more c))),
+    ))
     (cases_eq v x)
 
 -- one more vertex, with a mark

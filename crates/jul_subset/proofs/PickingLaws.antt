@@ -102,7 +102,7 @@ picks_together xs size k (o ∷ outs) each =
     let rest = picks_together xs size (k + 1) outs (λ i p e. (let s : k + suc i ≡ k + 1 + i = omega arith in subst (λ j. PicksOf (chunk_of xs size j) p.items) s (each (suc i) p e))) in (
       first.0 ++ rest.0,
       ap (λ l. l ++ flat_map (λ (o : Vec ℕ Global). o.items) outs) first.2 ∙ ap (λ l. picked first.0 (chunk_of xs size k) ++ l) rest.1
-      ∙ sym (picked-append first.0 rest.0 (chunk_of xs size k) (drop ((k + 1) * size) xs) first.1) ∙ ap (picked (first.0 ++ rest.0)) (sym (chunk_then xs size k)),
+          ∙ sym (picked-append first.0 rest.0 (chunk_of xs size k) (drop ((k + 1) * size) xs) first.1) ∙ ap (picked (first.0 ++ rest.0)) (sym (chunk_then xs size k)),
     )
 
 -- what passes a test in each chunk is what passes in the whole list
@@ -182,9 +182,9 @@ module _ (gives : ℕ → Bool → Log → Type 0) (xs : List ℕ) (size : ℕ) 
       → (bs : List Bool) × (flat_map (λ (o : Vec ℕ Global). o.items) outs ≡ picked bs xs)
   mapped_picks chunks old new outs order ran =
       let p = picks_together xs size 0 outs (λ i o e.
-          let z : 0 + i ≡ i = omega arith in
-          let g = given_at Notes chunks old new outs order ran i o e in
-          subst (λ j. PicksOf (chunk_of xs size j) o.items) (sym z) (notes_pick i o g.0 g.1)) in
+      let z : 0 + i ≡ i = omega arith in
+      let g = given_at Notes chunks old new outs order ran i o e in
+      subst (λ j. PicksOf (chunk_of xs size j) o.items) (sym z) (notes_pick i o g.0 g.1)) in
       let start : 0 * size ≡ 0 = omega arith in
       (p.0, p.1 ∙ ap (λ j. picked p.0 (drop j xs)) start)
 
@@ -223,7 +223,7 @@ filtered p xs size chunks old new outs order ran enough =
     let as_many : chunks ≡ 0 + length outs = omega (arith, ran.count) in
     let start : 0 * size ≡ 0 = omega arith in
     filters_together p xs size 0 outs (subst (λ j. length xs ≤ j * size) as_many enough) (λ i o e.
-        let z : i ≡ 0 + i = omega arith in
-        let g = given_at (λ chunk out added. (out.items ≡ filter p (chunk_of xs size chunk)) × (added ≡ [])) chunks old new outs order ran i o e in
-        g.1.0 ∙ ap (λ j. filter p (chunk_of xs size j)) z)
+    let z : i ≡ 0 + i = omega arith in
+    let g = given_at (λ chunk out added. (out.items ≡ filter p (chunk_of xs size chunk)) × (added ≡ [])) chunks old new outs order ran i o e in
+    g.1.0 ∙ ap (λ j. filter p (chunk_of xs size j)) z)
     ∙ ap (λ j. filter p (drop j xs)) start

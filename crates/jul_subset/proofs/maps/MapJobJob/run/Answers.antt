@@ -28,7 +28,7 @@ loop-v-preserved g c =
       applied = (
         was.applied.0 ++ d ∷ [],
         subst (λ l. AppliedInOrder gives l old new (was.applied.0 ++ d ∷ [])) (sym (take_more xs i 0 lt))
-        (applied_more gives (take i xs) old (g.F.Token.Share.log c.loop-v.token) new was.applied.0 d was.applied.1 made.gives.gives_out made.gives.log_is),
+            (applied_more gives (take i xs) old (g.F.Token.Share.log c.loop-v.token) new was.applied.0 d was.applied.1 made.gives.gives_out made.gives.log_is),
         noted ∙ ap (λ l. l ++ (if c.apply.result then v ∷ [] else [])) was.applied.2 ∙ sym (answered_true-append (λ u. u) was.applied.0 (d ∷ [])),
       );
       home = made.home ∙ was.home;

@@ -23,8 +23,8 @@ from_increasing-requires-clause-within c =
     let front = take inside.result c.args.ids.now in
     All-from_Contains (λ v. v < c.args.n) c.in_order-members.result.items front
     (λ v h.
-        let P : List ℕ → Type 0 = λ l. Contains l v in
-        subst P (c.in_ok-from_slice.ensures.items ∙ c.split_at.ensures.front) ((c.in_order-members.ensures.same v).0 h))
+    let P : List ℕ → Type 0 = λ l. Contains l v in
+    subst P (c.in_ok-from_slice.ensures.items ∙ c.split_at.ensures.front) ((c.in_order-members.ensures.same v).0 h))
     (All-front c.args.n c.args.ids.now inside.result inside.ensures.in_list inside.ensures.before)
 
 pub returns-in-Some-clause-wrong : goal.returns-in-Some-clause-wrong
