@@ -1,14 +1,14 @@
 -- How applications that were made in order in each chunk are put together.
-use Rattle.std.proofs.Common.{zero, suc, ◌≡◌, ℕ, ◌+◌, ◌<◌, List, [], ◌∷◌, ◌++◌, length, map, refl, ap, sym, ◌∙◌, subst, arith, All, Bool, true, false, Option, Some, None, slice_get, Vec, Global, if◌then◌else◌}
+use Rattle.std.proofs.Common.{suc, ◌≡◌, ℕ, ◌+◌, List, [], ◌∷◌, ◌++◌, length, map, refl, ap, sym, ◌∙◌, arith, All, Bool, true, false, Option, Some, None, slice_get, Vec, Global, if◌then◌else◌}
 use Rattle.std.specs.Prelude.{sum_by}
 use Rattle.std.specs.List.{flat_map, range_with_len}
-use Rattle.std.proofs.lemmas.List.{map-append, append-nil}
+use Rattle.std.proofs.lemmas.List.{map-append}
 use Rattle.std.proofs.lemmas.List.Sums.{sum_by-append}
 use Rattle.std.proofs.lemmas.List.Elements.{All-append, All-nil, All-push}
 use Rattle.jul_base.specs.Logs.{Log, followed_by}
 use Rattle.jul_base.specs.Numbers.{below}
 use Rattle.jul_base.proofs.LogLaws.{followed_by-nil}
-use Rattle.jul_pool.specs.Added.{followed_by_all, HasAdded}
+use Rattle.jul_pool.specs.Added.{followed_by_all}
 use Rattle.jul_pool.specs.Runs.{Run, IsRun, EachRunOnce}
 use Rattle.jul_pool.proofs.RunLaws.{followed_by_all-append}
 use Rattle.jul_pool.proofs.GatheringLaws.{followed_by-all}

@@ -1,7 +1,7 @@
 -- Lists of ids: the places that are seen, by the rank of each id.
-use Rattle.std.proofs.Common.{zero, suc, ◌≡◌, ℕ, ◌+◌, ◌<◌, ◌≤◌, ◌↔◌, ◌⊎◌, List, [], ◌∷◌, ◌++◌, length, take, set, replicate, get_or, All, true, false, Bool, ap, subst, sym, ◌∙◌, refl, arith, ⊎_elim, get_or-set_other, get_or-set_same}
-use Rattle.std.specs.Prelude.{Contains, slice_index, All, Option, Some, None, MatchOption}
-use Rattle.std.proofs.lemmas.List.{get_or-take, take-take, take_all, get_or_default}
+use Rattle.std.proofs.Common.{◌≡◌, ℕ, ◌+◌, ◌<◌, ◌≤◌, ◌↔◌, List, [], ◌∷◌, ◌++◌, length, take, set, replicate, get_or, All, true, false, Bool, ap, subst, sym, ◌∙◌, arith, ⊎_elim, get_or-set_other, get_or-set_same}
+use Rattle.std.specs.Prelude.{Contains, slice_index, All, Option, Some, None}
+use Rattle.std.proofs.lemmas.List.{get_or-take, take-take, get_or_default}
 use Rattle.std.proofs.lemmas.List.Elements.{Contains-get_or, All-contains}
 use Rattle.std.specs.List.Sorted.{IsStrictlyIncreasing}
 use Rattle.std.proofs.lemmas.Bool.{cases_eq}

@@ -1,15 +1,15 @@
 -- Marks: what is marked is in order, and what marks are set for.
-use Rattle.std.proofs.Common.{zero, suc, ◌≡◌, ℕ, ◌+◌, ◌<◌, ◌≤◌, ◌↔◌, ◌⊎◌, List, [], ◌∷◌, ◌++◌, length, take, set, replicate, get_or, All, true, false, Bool, cond, ap, subst, sym, ◌∙◌, refl, arith, ⊎_elim, get_or-set_other, get_or-set_same}
+use Rattle.std.proofs.Common.{◌≡◌, ℕ, ◌+◌, ◌<◌, ◌≤◌, ◌↔◌, List, [], ◌∷◌, ◌++◌, length, take, set, replicate, get_or, All, true, false, Bool, cond, ap, subst, sym, ◌∙◌, arith, ⊎_elim, get_or-set_other, get_or-set_same}
 use Rattle.std.specs.Prelude.{Contains}
 use Rattle.std.specs.List.{filter}
 use Rattle.std.specs.List.Sorted.{IsStrictlyIncreasing}
 use Rattle.std.proofs.lemmas.Bool.{cases_lt, cases_eq}
 use Rattle.std.proofs.lemmas.List.{get_or_past, get_or-replicate, length-replicate, take_more, append-nil, get_or_default}
-use Rattle.std.proofs.lemmas.List.Elements.{Contains-get_or, Contains-push, Contains-push_cases, Contains-append_left, All-contains}
+use Rattle.std.proofs.lemmas.List.Elements.{Contains-get_or, Contains-push, Contains-push_cases, Contains-append_left}
 use Rattle.std.proofs.lemmas.List.Kept.{IsStrictlyIncreasing-filter}
 use Rattle.jul_base.specs.Numbers.{below}
 use Rattle.jul_base.proofs.PartLaws.{filter_below-more}
-use Rattle.jul_base.proofs.SetLaws.{Contains-filter, Contains-from_filter, Contains-below, below-Contains, IsStrictlyIncreasing-below, increasing_unique}
+use Rattle.jul_base.proofs.SetLaws.{Contains-filter, Contains-from_filter, Contains-below, IsStrictlyIncreasing-below, increasing_unique}
 use Rattle.jul_subset.specs.Marks.{mark_at, marked}
 
 pub mark_in_list : (marks : List Bool) (v : ℕ) → mark_at marks v ≡ true → v < length marks

@@ -1,5 +1,5 @@
 -- What chunks pick of an increasing list, put together.
-use Rattle.std.proofs.Common.{zero, suc, ◌≡◌, ℕ, ◌+◌, ◌*◌, ◌<◌, ◌≤◌, ◌↔◌, ◌⊎◌, List, [], ◌∷◌, ◌++◌, length, map, take, drop, get_or, refl, ap, sym, ◌∙◌, subst, arith, All, Bool, true, false, Option, Some, slice_get, Vec, Global, ⊎_elim, if◌then◌else◌}
+use Rattle.std.proofs.Common.{zero, suc, ◌≡◌, ℕ, ◌+◌, ◌*◌, ◌<◌, ◌≤◌, ◌↔◌, List, [], ◌∷◌, ◌++◌, length, map, drop, get_or, refl, ap, sym, ◌∙◌, subst, arith, All, Bool, true, false, Some, slice_get, Vec, Global, ⊎_elim, if◌then◌else◌}
 use Rattle.std.specs.Prelude.{sum_by, Contains, ◌==◌}
 use Rattle.std.specs.List.{flat_map, filter, AllPairs, range_with_len}
 use Rattle.std.specs.List.Sorted.{IsStrictlyIncreasing}
@@ -10,13 +10,12 @@ use Rattle.std.proofs.lemmas.List.Sums.{sum_by-append}
 use Rattle.std.proofs.lemmas.List.Elements.{filter-append, All-nil, All-cons, All-head, All-tail}
 use Rattle.std.proofs.lemmas.List.Kept.{AllPairs-from_increasing}
 use Rattle.jul_base.specs.Logs.{Log}
-use Rattle.jul_base.specs.Numbers.{below}
 use Rattle.jul_base.proofs.SetLaws.{Contains-cons, Contains-cons_cases}
 use Rattle.jul_pool.specs.Runs.{EachRunOnce}
 use Rattle.jul_subset.specs.Chunks.{chunk_of}
 use Rattle.jul_subset.specs.Applications.{Done, answered_true, AppliedOnce, SameItems}
 use Rattle.jul_subset.proofs.ChunkLaws.{chunk_then, given_at}
-use Rattle.jul_subset.proofs.ApplicationLaws.{NotesChunk, AllGathered, all_gathered}
+use Rattle.jul_subset.proofs.ApplicationLaws.{NotesChunk, all_gathered}
 
 -- those of a list at which there is true
 abbrev picked : List Bool → List ℕ → List ℕ

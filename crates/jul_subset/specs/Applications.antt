@@ -16,7 +16,8 @@ pub record Done (X : Type 0) : Type 0 where
 -- the vertices of the applications that were answered true, in the order of the applications
 abbrev pub answered_true : {X : Type 0} → (X → ℕ) → List (Done X) → List ℕ
 answered_true vertex [] = []
-answered_true vertex (d ∷ ds) = if d.answer then vertex d.to ∷ answered_true vertex ds else answered_true vertex ds
+answered_true vertex (d ∷ ds) =
+    if d.answer then vertex d.to ∷ answered_true vertex ds else answered_true vertex ds
 
 -- `gives` is what the function may do: to what it is applied, its answer and the entries that it adds
 module _ {X : Type 0} (gives : X → Bool → Log → Type 0) where

@@ -22,5 +22,6 @@ pub record IsRightBefore (n : ℕ) (ids : List ℕ) (at : ℕ) : Type 0 where
 -- the error names the first wrong id: one that isn't below n, or else one that stands at an earlier place
 abbrev pub NamesFirstWrong : ℕ → List ℕ → SubsetError → Type 0
 NamesFirstWrong n ids (Range at) = (at < length ids) × (n ≤ slice_index ids at) × IsRightBefore n ids at
-NamesFirstWrong n ids (Repeat at) = (at < length ids) × (slice_index ids at < n) × IsRepeat ids at × IsRightBefore n ids at
+NamesFirstWrong n ids (Repeat at) =
+    (at < length ids) × (slice_index ids at < n) × IsRepeat ids at × IsRightBefore n ids at
 NamesFirstWrong n ids Memory = Unit {0}

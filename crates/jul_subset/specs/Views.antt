@@ -1,6 +1,6 @@
 -- How the members of a subset are kept.
 use Rattle.std.specs.Prelude.{ℕ, ◌≡◌, List, Bool, true, false, length}
-use Rattle.jul_subset.specs.Subsets.{Subset, IsSubset}
+use Rattle.jul_subset.specs.Subsets.{Subset}
 use Rattle.jul_subset.specs.Marks.{marked}
 use Rattle.jul_subset.specs.declared.subsets.Kept.{Kept}
 use Rattle.jul_subset.specs.declared.subsets.Kept.TheVariants.{Sparse, Dense}

@@ -1,4 +1,4 @@
-use Rattle.std.proofs.Common.{◌≡◌, refl, arith, get_or, below_more}
+use Rattle.std.proofs.Common.{refl, arith, get_or, below_more}
 use Rattle.jul_subset.proofs.ListLaws.{seen_more, new_where_unseen}
 use Rattle.jul_subset.proofs.lists.first_repeat.Goals as goal
 

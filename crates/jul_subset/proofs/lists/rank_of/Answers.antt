@@ -1,4 +1,4 @@
-use Rattle.std.proofs.Common.{sym, ◌∙◌, ap, get_or}
+use Rattle.std.proofs.Common.{◌∙◌, ap, get_or}
 use Rattle.jul_subset.proofs.IncreasingLaws.{search_place}
 use Rattle.jul_subset.proofs.lists.rank_of.Goals as goal
 

@@ -1,7 +1,7 @@
-use Rattle.std.proofs.Common.{◌≡◌, ℕ, ◌<◌, ◌∙◌, sym, ap, subst, arith, List, [], ◌∷◌, ◌++◌, length, map, take, get_or, if◌then◌else◌}
+use Rattle.std.proofs.Common.{◌≡◌, ℕ, ◌<◌, ◌∙◌, sym, ap, subst, arith, [], ◌∷◌, ◌++◌, length, map, take, get_or, if◌then◌else◌}
 use Rattle.std.proofs.lemmas.List.{take_more, take_all, append-nil}
 use Rattle.jul_pool.specs.Added.{followed_by_all}
-use Rattle.jul_subset.specs.Applications.{Done, AppliedInOrder, answered_true}
+use Rattle.jul_subset.specs.Applications.{Done, AppliedInOrder}
 use Rattle.jul_subset.proofs.ApplicationLaws.{answered_true-append, applied_more, applied_from_nil}
 use Rattle.jul_subset.proofs.maps.MapJobJob.run.Goals as goal
 use Rattle.jul_subset.proofs.maps.MapJobJob.run.Goals.{then-apply+in_ok-push, else-apply}

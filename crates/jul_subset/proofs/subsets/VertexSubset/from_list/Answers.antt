@@ -1,4 +1,4 @@
-use Rattle.std.proofs.Common.{◌≡◌, ℕ, ◌<◌, ◌∙◌, List, subst, sym, ap, arith, take}
+use Rattle.std.proofs.Common.{ℕ, ◌<◌, ◌∙◌, List, subst, sym, ap, arith, take}
 use Rattle.std.specs.Prelude.{Contains}
 use Rattle.std.proofs.lemmas.List.{take_all}
 use Rattle.jul_subset.proofs.ListLaws.{All-from_Contains, All-front, right_where_none, wrong_where_some}
