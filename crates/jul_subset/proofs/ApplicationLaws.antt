@@ -15,7 +15,8 @@ use Rattle.jul_pool.proofs.GatheringLaws.{followed_by-all}
 use Rattle.jul_subset.specs.Applications.{Done, answered_true, AppliedBy, AppliedInOrder}
 use Rattle.jul_subset.proofs.ChunkLaws.{each_once_sum}
 
-if_append : {X : Type 0} (b : Bool) (x : X) (xs ys zs : List X) → zs ≡ xs ++ ys → (if b then x ∷ zs else zs) ≡ (if b then x ∷ xs else xs) ++ ys
+-- one element before an appended list, where there is one
+pub if_append : {X : Type 0} (b : Bool) (x : X) (xs ys zs : List X) → zs ≡ xs ++ ys → (if b then x ∷ zs else zs) ≡ (if b then x ∷ xs else xs) ++ ys
 if_append true x xs ys zs e = ap (λ l. x ∷ l) e
 if_append false x xs ys zs e = e
 

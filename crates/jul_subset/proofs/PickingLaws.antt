@@ -15,17 +15,13 @@ use Rattle.jul_pool.specs.Runs.{EachRunOnce}
 use Rattle.jul_subset.specs.Chunks.{chunk_of}
 use Rattle.jul_subset.specs.Applications.{Done, answered_true, AppliedOnce, SameItems}
 use Rattle.jul_subset.proofs.ChunkLaws.{chunk_then, given_at}
-use Rattle.jul_subset.proofs.ApplicationLaws.{NotesChunk, all_gathered}
+use Rattle.jul_subset.proofs.ApplicationLaws.{if_append, NotesChunk, all_gathered}
 
 -- those of a list at which there is true
 abbrev picked : List Bool → List ℕ → List ℕ
 picked [] xs = []
 picked (b ∷ bs) [] = []
 picked (b ∷ bs) (x ∷ xs) = if b then x ∷ picked bs xs else picked bs xs
-
-if_append : (b : Bool) (x : ℕ) (xs ys zs : List ℕ) → zs ≡ xs ++ ys → (if b then x ∷ zs else zs) ≡ (if b then x ∷ xs else xs) ++ ys
-if_append true x xs ys zs e = ap (λ l. x ∷ l) e
-if_append false x xs ys zs e = e
 
 picked-append : (bs cs : List Bool) (xs ys : List ℕ) → length bs ≡ length xs → picked (bs ++ cs) (xs ++ ys) ≡ picked bs xs ++ picked cs ys
 picked-append [] cs [] ys e = refl
