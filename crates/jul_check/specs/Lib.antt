@@ -1,0 +1,4 @@
+pub mod Verdicts
+pub mod CoreChecks
+pub mod DistanceChecks
+pub mod CoverChecks
