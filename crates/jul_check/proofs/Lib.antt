@@ -1,1 +1,5 @@
 pub mod VerdictLaws
+pub mod CoreOrderLaws
+pub mod CoreCheckLaws
+pub mod CoverMarkLaws
+pub mod CoverCheckLaws

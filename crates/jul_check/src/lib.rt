@@ -6,7 +6,9 @@
 #![tactic(auto)]
 
 mod core_checks;
+mod core_order;
 mod cover_checks;
+mod cover_marks;
 mod distance_checks;
 mod verdicts;
 
