@@ -8,6 +8,7 @@
 mod core_checks;
 mod cover_checks;
 mod distance_checks;
+mod tree_marks;
 mod verdicts;
 
 pub use core_checks::check_cores;
