@@ -1,1 +1,4 @@
 pub mod VerdictLaws
+pub mod PlaceLaws
+pub mod TreeMarkLaws
+pub mod DistanceCheckLaws

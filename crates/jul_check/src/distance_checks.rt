@@ -3,7 +3,7 @@
 //! One pass over the places marks the vertices whose parents bear them out, another over vertices and places finds the
 //! first vertex that fails. No sum is made, so that none wraps: numbers are compared by what one is more than the other.
 ghost use Rattle.std.specs.Prelude.{◌≡◌, ◌+◌, ◌<◌, Bool, false, length, slice_index, nat_lt, find, IfOk};
-ghost use Rattle.jul_base.specs.Graph.{vertices};
+ghost use Rattle.jul_base.specs.Graph.{vertices, IsLawful};
 ghost use Rattle.jul_base.specs.Distances.{AreDistances};
 ghost use Rattle.jul_check.specs.DistanceChecks.{is_lowerable, is_parent, is_reached};
 ghost use Rattle.jul_check.specs.DistanceChecks.{fails_distances, distance_reasons, distances_verdict};
@@ -59,6 +59,7 @@ fn first_failing(rows: &Rows, source: u32, d: &Distances, marks: &[bool]) -> Ver
 
 /// The first reason that `v` fails, where `mark` tells whether its parent bears it out.
 fn first_reason(rows: &Rows, source: u32, d: &Distances, v: u32, mark: bool) -> Option<Reason>
+    requires lawful { IsLawful rows.now }
     requires vertex { v < vertices rows.now }
     requires dist { length d.now.dist ≡ vertices rows.now }
     requires hops { length d.now.hops ≡ vertices rows.now }
@@ -86,6 +87,7 @@ fn first_reason(rows: &Rows, source: u32, d: &Distances, v: u32, mark: bool) -> 
 
 /// Whether some place of `v` leads to a vertex without a number, or with a greater one than along the place.
 fn is_lowerable(rows: &Rows, dist: &[u64], v: u32) -> bool
+    requires lawful { IsLawful rows.now }
     requires vertex { v < vertices rows.now }
     requires size { length dist.now ≡ vertices rows.now }
 

@@ -3,7 +3,7 @@
 //! The row of a parent may be long and its children many, so that no row is searched for each of them. One pass over all
 //! places in order marks the target of each place that comes from its parent and bears it out.
 ghost use Rattle.std.specs.Prelude.{◌≡◌, ◌+◌, ◌<◌, ◌||◌, ◌==◌, length, slice_index, IfOk};
-ghost use Rattle.jul_base.specs.Graph.{vertices};
+ghost use Rattle.jul_base.specs.Graph.{vertices, IsLawful};
 ghost use Rattle.jul_check.specs.DistanceChecks.{is_parent};
 ghost use Rattle.jul_check.specs.TreeMarks.{parent_of, is_borne, is_marked, AreMarks};
 
@@ -34,6 +34,7 @@ pub(crate) fn mark_tree(
 
 /// Marks the vertices that `u` bears out.
 fn mark_row(rows: &Rows, d: &Distances, u: u32, marks: &mut Vec<bool>)
+    requires lawful { IsLawful rows.now }
     requires dist { length d.now.dist ≡ vertices rows.now }
     requires hops { length d.now.hops ≡ vertices rows.now }
     requires parent { length d.now.parent ≡ vertices rows.now }
