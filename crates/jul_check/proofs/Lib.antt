@@ -1,4 +1,5 @@
 pub mod VerdictLaws
 pub mod PlaceLaws
+pub mod LoweringLaws
 pub mod TreeMarkLaws
 pub mod DistanceCheckLaws

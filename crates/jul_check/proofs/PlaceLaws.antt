@@ -27,6 +27,12 @@ list_any-range_with_len-suc t a (suc k) =
 pub list_any-range_with_len_more : (t : ℕ → Bool) (a k : ℕ) → list_any t (range_with_len a (k + 1)) ≡ (list_any t (range_with_len a k) || t (a + k))
 list_any-range_with_len_more t a k = let e : k + 1 ≡ suc k = omega arith in ap (λ n. list_any t (range_with_len a n)) e ∙ list_any-range_with_len-suc t a k
 
+neither : (a b : Bool) → a ≡ false → b ≡ false → (a || b) ≡ false
+neither a b h i = grind arith
+
+pub none_more : (t : ℕ → Bool) (a k : ℕ) → list_any t (range_with_len a k) ≡ false → t (a + k) ≡ false → list_any t (range_with_len a (k + 1)) ≡ false
+none_more t a k before here = list_any-range_with_len_more t a k ∙ neither (list_any t (range_with_len a k)) (t (a + k)) before here
+
 -- after the places before the end of the row all are tested
 pub list_any-places_of : (g : RawGraph) (v k : ℕ) (t : ℕ → Bool) → row_start g v + k ≡ row_end g v → list_any t (places_of g v) ≡ list_any t (range_with_len (row_start g v) k)
 list_any-places_of g v k t e = let same : row_end g v - row_start g v ≡ k = omega arith in ap (λ n. list_any t (range_with_len (row_start g v) n)) same

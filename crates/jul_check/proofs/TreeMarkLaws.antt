@@ -5,6 +5,7 @@ use Rattle.std.proofs.lemmas.Bool.{cases_eq, cases_lt, cases_Bool, lt-ltb, le-lt
 use Rattle.std.proofs.lemmas.Bool.Decides.{nat_tests}
 use Rattle.jul_base.specs.declared.graphs.RawGraph.{RawGraph}
 use Rattle.jul_base.specs.declared.results.Distances.{Distances}
+use Rattle.jul_base.specs.declared.limits.TheConstants.{NONE}
 use Rattle.jul_base.specs.Graph.{vertices, row_start, row_end, target, weight}
 use Rattle.jul_check.specs.Verdicts.{is_none}
 use Rattle.jul_check.specs.DistanceChecks.{places_of, is_tight, is_parent}
@@ -141,3 +142,13 @@ AreMarks-past g d u marks none are =
             ∙ no_parent (ltb u (vertices g)) (not (is_none (get_or d.dist u 0))) (not (is_none (get_or d.hops u 0))) (list_any (is_tight g d.dist u v) (places_of g u)) (eqb (parent_of d v) u) (eqb (get_or d.hops u 0 + 1) (get_or d.hops v 0)) none
         | inr ne ↦ and_false (eqb (parent_of d v) u) (is_parent g d v (parent_of d v)) (ne_eqb (parent_of d v) u ne)
       ]
+
+-- ---- what is read of a vertex
+
+both : (a b : Bool) → a ≡ false → b ≡ false → (not a && not b) ≡ true
+both a b h i = grind arith
+
+pub has_numbers-some : (d : Distances) (u x y : ℕ) → x ≡ get_or d.dist u 0 → y ≡ get_or d.hops u 0 → x ≢ NONE → y ≢ NONE → has_numbers d u ≡ true
+has_numbers-some d u x y dist hops x_some y_some =
+    both (is_none (get_or d.dist u 0)) (is_none (get_or d.hops u 0))
+    (ne_eqb (get_or d.dist u 0) NONE (λ e. x_some (dist ∙ e))) (ne_eqb (get_or d.hops u 0) NONE (λ e. y_some (hops ∙ e)))
