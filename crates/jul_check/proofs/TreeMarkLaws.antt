@@ -104,12 +104,12 @@ is_parent-row g d u v lt some =
     swap_parent
     ∙ of_row (ltb u (vertices g)) (not (is_none (get_or d.dist u 0))) (not (is_none (get_or d.hops u 0))) (list_any (is_tight g d.dist u v) (places_of g u)) (eqb (parent_of d v) u) (eqb (get_or d.hops u 0 + 1) (get_or d.hops v 0)) (lt-ltb u (vertices g) lt) some
     ∙ sym (any_and (λ p. eqb (target g p) v) (λ p. eqb (get_or d.dist u 0 + weight g p) (get_or d.dist v 0)) (eqb (parent_of d v) u) (eqb (get_or d.hops u 0 + 1) (get_or d.hops v 0)) (places_of g u))
-    where
-      swap_parent : (eqb (parent_of d v) u && is_parent g d v (parent_of d v)) ≡ (eqb (parent_of d v) u && is_parent g d v u)
-      swap_parent = elim (cases_eq (parent_of d v) u) [
-        | inl e ↦ ap (λ x. eqb (parent_of d v) u && is_parent g d v x) e
-        | inr ne ↦ and_false (eqb (parent_of d v) u) (is_parent g d v (parent_of d v)) (ne_eqb (parent_of d v) u ne) ∙ sym (and_false (eqb (parent_of d v) u) (is_parent g d v u) (ne_eqb (parent_of d v) u ne))
-      ]
+  where
+    swap_parent : (eqb (parent_of d v) u && is_parent g d v (parent_of d v)) ≡ (eqb (parent_of d v) u && is_parent g d v u)
+    swap_parent = elim (cases_eq (parent_of d v) u) [
+      | inl e ↦ ap (λ x. eqb (parent_of d v) u && is_parent g d v x) e
+      | inr ne ↦ and_false (eqb (parent_of d v) u) (is_parent g d v (parent_of d v)) (ne_eqb (parent_of d v) u ne) ∙ sym (and_false (eqb (parent_of d v) u) (is_parent g d v u) (ne_eqb (parent_of d v) u ne))
+    ]
 
 -- all places of u are read
 pub AreMarks-next : (g : RawGraph) (d : Distances) (u k : ℕ) (marks : List Bool) → u < vertices g → has_numbers d u ≡ true → row_start g u + k ≡ row_end g u →
@@ -135,6 +135,7 @@ AreMarks-past g d u marks none are =
     ∙ or_none (is_marked g d u v)) where
       or_none : (b : Bool) → (b || false) ≡ b
       or_none b = grind arith
+
       not_parent : (v : ℕ) → (eqb (parent_of d v) u && is_parent g d v (parent_of d v)) ≡ false
       not_parent v = elim (cases_eq (parent_of d v) u) [
         | inl e ↦

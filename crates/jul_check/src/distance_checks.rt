@@ -76,13 +76,21 @@ fn first_reason(rows: &Rows, source: u32, d: &Distances, v: u32, mark: bool) -> 
     }
     if dist == NONE {
         let is_unreached = hops == NONE && parent == NONE;
-        return if is_source || is_unreached { None } else { Some(Reason::Unreached) };
+        return if is_source || is_unreached {
+            None
+        } else {
+            Some(Reason::Unreached)
+        };
     }
     if is_lowerable(rows, d.dist.as_slice(), v) {
         return Some(Reason::Lowerable);
     }
     let has_parent = hops != NONE && parent != NONE && mark;
-    if is_source || has_parent { None } else { Some(Reason::Parent) }
+    if is_source || has_parent {
+        None
+    } else {
+        Some(Reason::Parent)
+    }
 }
 
 /// Whether some place of `v` leads to a vertex without a number, or with a greater one than along the place.
@@ -112,3 +120,6 @@ fn exceeds(there: u64, number: u64, weight: u32) -> bool
 {
     number < there && there - number > weight as u64
 }
+
+#[cfg(test)]
+mod tests;

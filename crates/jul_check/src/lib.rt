@@ -15,3 +15,6 @@ pub use core_checks::check_cores;
 pub use cover_checks::check_cover;
 pub use distance_checks::check_distances;
 pub use verdicts::{Reason, Verdict};
+
+#[cfg(test)]
+mod test_graphs;

@@ -13,11 +13,7 @@ use std::alloc::{AllocError, Global};
 
 /// A mark for each vertex, set where the parent that is named for it is one: a vertex with numbers and one hop fewer,
 /// with a place that makes the vertex's distance of its own. Takes memory for a mark a vertex.
-pub(crate) fn mark_tree(
-    alloc: Global,
-    rows: &Rows,
-    d: &Distances,
-) -> Result<Vec<bool>, AllocError>
+pub(crate) fn mark_tree(alloc: Global, rows: &Rows, d: &Distances) -> Result<Vec<bool>, AllocError>
     requires dist { length d.now.dist ≡ vertices rows.now }
     requires hops { length d.now.hops ≡ vertices rows.now }
     requires parent { length d.now.parent ≡ vertices rows.now }
