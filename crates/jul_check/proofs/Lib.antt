@@ -3,3 +3,7 @@ pub mod CoreOrderLaws
 pub mod CoreCheckLaws
 pub mod CoverMarkLaws
 pub mod CoverCheckLaws
+pub mod PlaceLaws
+pub mod LoweringLaws
+pub mod TreeMarkLaws
+pub mod DistanceCheckLaws

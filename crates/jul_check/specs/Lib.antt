@@ -1,6 +1,7 @@
 pub mod Verdicts
 pub mod CoreChecks
 pub mod DistanceChecks
+pub mod TreeMarks
 pub mod CoverChecks
 pub mod CoreOrder
 pub mod CoverMarks
