@@ -14,7 +14,9 @@ use Rattle.std.proofs.lemmas.List.FromFn.{length-map-range_with_len, get_or-map-
 use Rattle.jul_base.specs.declared.results.Cores.{Cores}
 use Rattle.jul_base.specs.Numbers.{below}
 use Rattle.jul_check.specs.CoreChecks.{core_of, level_of, is_before, is_outranked}
-use Rattle.jul_check.specs.CoreOrder.{leveled, IsByLevel, MarksOutranked}
+use Rattle.jul_check.specs.CoreOrder.{leveled, IsByLevel}
+use Rattle.jul_check.specs.TreeMarks.{AreMarks}
+use Rattle.jul_check.proofs.TestLaws.{same_test, list_any-map}
 
 -- ---- pairs in order
 
@@ -98,16 +100,6 @@ before_other c u v ne h = grind (arith, nat_tests)
 
 outranks : Cores → ℕ → ℕ × ℕ → Bool
 outranks c v p = is_before c p.1 v && ltb (core_of c v) (core_of c p.1)
-
-list_any-map : {A B : Type 0} (p : B → Bool) (f : A → B) (xs : List A) → list_any p (map f xs) ≡ list_any (λ x. p (f x)) xs
-list_any-map p f [] = refl
-list_any-map p f (x ∷ xs) = ap (λ b. p (f x) || b) (list_any-map p f xs)
-
--- two tests that hold where the other does are one
-same_test : (a b : Bool) → (a ≡ true → b ≡ true) → (b ≡ true → a ≡ true) → a ≡ b
-same_test true b there back = sym (there refl)
-same_test false true there back = back refl
-same_test false false there back = refl
 
 -- the number of an entry that passes, at any default
 any_place : (test : ℕ × ℕ → Bool) (xs : List (ℕ × ℕ)) (d : ℕ × ℕ) → list_any test xs ≡ true → (k : ℕ) × (k < length xs) × (test (get_or xs k d) ≡ true)
@@ -219,9 +211,9 @@ MarksSoFar-more c n order by i marks greatest before lt v core at is =
     }
 
 -- at the end every vertex has its mark
-pub MarksOutranked-from_all : (c : Cores) (n : ℕ) (order : List (ℕ × ℕ)) → IsByLevel c n order → (i : ℕ) (marks : List Bool) (greatest : ℕ) →
-    MarksSoFar c n order i marks greatest → length order ≤ i → MarksOutranked c n marks
-MarksOutranked-from_all c n order by i marks greatest done end = record {
+pub AreMarks-from_all : (c : Cores) (n : ℕ) (order : List (ℕ × ℕ)) → IsByLevel c n order → (i : ℕ) (marks : List Bool) (greatest : ℕ) →
+    MarksSoFar c n order i marks greatest → length order ≤ i → AreMarks n (is_outranked c n) marks
+AreMarks-from_all c n order by i marks greatest done end = record {
   size = done.size;
   each = λ v lt.
       let (j, j_lt, at) = place_in_order c n order by v lt in

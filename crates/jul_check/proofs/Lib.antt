@@ -1,4 +1,5 @@
 pub mod VerdictLaws
+pub mod TestLaws
 pub mod CoreOrderLaws
 pub mod CoreCheckLaws
 pub mod CoverMarkLaws
