@@ -1,7 +1,7 @@
 -- Least distances with their hops and parents fail no reason.
 use Rattle.std.proofs.Common.{◌≡◌, ◌≢◌, ℕ, zero, suc, ◌+◌, ◌-◌, ◌<◌, ◌≤◌, Bool, true, false, not, ◌&&◌, ◌||◌, eqb, ltb, List, [], ◌∷◌, ◌++◌, length, get_or, Option, Some, None, sym, ◌∙◌, subst, refl, ap, arith, inl, inr, length-append}
 use Rattle.std.specs.List.{list_any, find, range_with_len}
-use Rattle.std.proofs.lemmas.Bool.{cases_eq, lt-ltb, le-ltb, eq-eqb, ne_eqb}
+use Rattle.std.proofs.lemmas.Bool.{cases_eq, lt-ltb, le-ltb, eq-eqb, ne_eqb, and_from, and_left, and_right}
 use Rattle.std.proofs.lemmas.List.Folds.{list_any_none}
 use Rattle.std.proofs.lemmas.List.FromFn.{length-range_with_len, get_or-range_with_len}
 use Rattle.jul_base.specs.declared.graphs.RawGraph.{RawGraph}
@@ -20,7 +20,8 @@ use Rattle.jul_check.specs.declared.verdicts.Verdict.TheVariants.{Yes}
 use Rattle.jul_check.specs.Verdicts.{is_none, verdict_by, verdict_from}
 use Rattle.jul_check.specs.DistanceChecks.{distance_reasons, fails_distances, distances_verdict, places_of, is_lowered, is_lowerable, is_tight, is_parent, has_parent}
 use Rattle.jul_check.proofs.VerdictLaws.{verdict_from-zero, verdict_from-passes, verdict_from-end}
-use Rattle.jul_check.proofs.PlaceLaws.{passes_at}
+use Rattle.jul_check.proofs.PlaceLaws.{passes_at, passes_nowhere}
+use Rattle.jul_check.proofs.DistanceCheckLaws.{is_some_number}
 use Rattle.jul_check.proofs.LoweringLaws.{is_lowered-not}
 
 -- ---- walks by their last place
@@ -131,9 +132,6 @@ has_last_step g source d t v lt other some = of_best (best_walk g source d t v l
 right_start : (e a b c : Bool) → a ≡ true → b ≡ true → c ≡ true → (e && not (a && b && c)) ≡ false
 right_start e a b c x y z = grind arith
 
-and_false : (e b : Bool) → e ≡ false → (e && b) ≡ false
-and_false e b h = grind arith
-
 three_and : (e r b : Bool) → b ≡ true → (not e && r && not b) ≡ false
 three_and e r b h = grind arith
 
@@ -142,12 +140,6 @@ not_reached e r b h = grind arith
 
 is_the_source : (e r b : Bool) → e ≡ true → (not e && r && b) ≡ false
 is_the_source e r b h = grind arith
-
-not_none : (x : ℕ) → x ≢ NONE → not (is_none x) ≡ true
-not_none x h = ap not (ne_eqb x NONE h)
-
-all_three : (a b c : Bool) → a ≡ true → b ≡ true → c ≡ true → (a && b && c) ≡ true
-all_three a b c x y z = grind arith
 
 all_five : (a b c e f : Bool) → a ≡ true → b ≡ true → c ≡ true → e ≡ true → f ≡ true → (a && b && c && e && f) ≡ true
 all_five a b c e f x y z v w = grind arith
@@ -159,7 +151,7 @@ source_passes g source d t v =
           right_start (eqb v source) (eqb (get_or d.dist v 0) 0) (eqb (get_or d.hops v 0) 0) (is_none (get_or d.parent v 0))
           (eq-eqb (get_or d.dist v 0) 0 (ap (λ x. get_or d.dist x 0) e ∙ dist)) (eq-eqb (get_or d.hops v 0) 0 (ap (λ x. get_or d.hops x 0) e ∙ hops))
           (eq-eqb (get_or d.parent v 0) NONE (ap (λ x. get_or d.parent x 0) e ∙ parent))
-      | inr ne ↦ and_false (eqb v source) (not (eqb (get_or d.dist v 0) 0 && eqb (get_or d.hops v 0) 0 && is_none (get_or d.parent v 0))) (ne_eqb v source ne)
+      | inr ne ↦ and_left (eqb v source) (not (eqb (get_or d.dist v 0) 0 && eqb (get_or d.hops v 0) 0 && is_none (get_or d.parent v 0))) (ne_eqb v source ne)
     ] where
       dist : get_or d.dist source 0 ≡ 0
       dist = omega (arith, (along g source d t source [] t.start refl).1)
@@ -176,36 +168,26 @@ source_passes g source d t v =
 lowerable_passes : (g : RawGraph) (source : ℕ) (d : Distances) → IsTree g source d → (v : ℕ) → v < vertices g → fails_distances g source d v reasons.Lowerable ≡ false
 lowerable_passes g source d t v lt =
     elim (cases_eq (get_or d.dist v 0) NONE) [
-      | inl none ↦ and_false (not (is_none (get_or d.dist v 0))) (is_lowerable g d.dist v) (ap not (eq-eqb (get_or d.dist v 0) NONE none))
-      | inr some ↦ ap (λ b. not (is_none (get_or d.dist v 0)) && b) (list_any_none (is_lowered g d.dist v) (places_of g v) (each some)) ∙ false_right (not (is_none (get_or d.dist v 0)))
+      | inl none ↦ and_left (not (is_none (get_or d.dist v 0))) (is_lowerable g d.dist v) (ap not (eq-eqb (get_or d.dist v 0) NONE none))
+      | inr some ↦ and_right (not (is_none (get_or d.dist v 0))) (is_lowerable g d.dist v) (passes_nowhere g v (is_lowered g d.dist v) lt (at_place some))
     ] where
-      false_right : (b : Bool) → (b && false) ≡ false
-      false_right b = grind arith
       at_place : get_or d.dist v 0 ≢ NONE → (p : ℕ) → IsPlaceOf g v p → is_lowered g d.dist v p ≡ false
       at_place some p at =
         let s : (get_or d.dist (target g p) 0 ≢ NONE) × (get_or d.dist (target g p) 0 ≤ get_or d.dist v 0 + weight g p) = step g source d t v p at some in
         is_lowered-not g d.dist v p (target g p) (weight g p) refl refl s.0 (le-ltb (get_or d.dist v 0 + weight g p) (get_or d.dist (target g p) 0) s.1)
-      each : get_or d.dist v 0 ≢ NONE → (k x : ℕ) → k < length (places_of g v) → is_lowered g d.dist v (get_or (places_of g v) k x) ≡ false
-      each some k x k_lt =
-        let n : ℕ = row_end g v - row_start g v in
-        let k_in : k < n = omega (arith, length-range_with_len (row_start g v) n) in
-        let is : get_or (places_of g v) k x ≡ row_start g v + k = get_or-range_with_len (row_start g v) n k x k_in in
-        ap (is_lowered g d.dist v) is ∙ at_place some (row_start g v + k) (record { vertex = lt; from = omega arith; to = omega arith })
 
 -- the parent of a vertex that has a last step
 parent_holds : (g : RawGraph) (source : ℕ) (d : Distances) → IsTree g source d → (v u p : ℕ) → IsLastStep g d.dist d.hops v u p → is_parent g d v u ≡ true
 parent_holds g source d t v u p s =
     all_five (ltb u (vertices g)) (not (is_none (get_or d.dist u 0))) (not (is_none (get_or d.hops u 0))) (list_any (is_tight g d.dist u v) (places_of g u)) (eqb (get_or d.hops u 0 + 1) (get_or d.hops v 0))
-    (lt-ltb u (vertices g) s.from.vertex) (not_none (get_or d.dist u 0) s.reached) (not_none (get_or d.hops u 0) (hops_some g source d t u s.from.vertex s.reached))
-    (passes_at g u p (is_tight g d.dist u v) s.from (both (eqb (target g p) v) (eqb (get_or d.dist u 0 + weight g p) (get_or d.dist v 0)) (eq-eqb (target g p) v s.to) (eq-eqb (get_or d.dist u 0 + weight g p) (get_or d.dist v 0) s.sum)))
-    (eq-eqb (get_or d.hops u 0 + 1) (get_or d.hops v 0) s.hop) where
-      both : (a b : Bool) → a ≡ true → b ≡ true → (a && b) ≡ true
-      both a b x y = grind arith
+    (lt-ltb u (vertices g) s.from.vertex) (is_some_number (get_or d.dist u 0) s.reached) (is_some_number (get_or d.hops u 0) (hops_some g source d t u s.from.vertex s.reached))
+    (passes_at g u p (is_tight g d.dist u v) s.from (and_from (eqb (target g p) v) (eqb (get_or d.dist u 0 + weight g p) (get_or d.dist v 0)) (eq-eqb (target g p) v s.to) (eq-eqb (get_or d.dist u 0 + weight g p) (get_or d.dist v 0) s.sum)))
+    (eq-eqb (get_or d.hops u 0 + 1) (get_or d.hops v 0) s.hop)
 
 has_parent_holds : (g : RawGraph) (source : ℕ) (d : Distances) → IsTree g source d → (v : ℕ) → v < vertices g → v ≢ source → get_or d.dist v 0 ≢ NONE → has_parent g d v ≡ true
 has_parent_holds g source d t v lt other some =
-    all_three (not (is_none (get_or d.hops v 0))) (not (is_none (get_or d.parent v 0))) (is_parent g d v (get_or d.parent v 0))
-    (not_none (get_or d.hops v 0) (hops_some g source d t v lt some)) (not_none (get_or d.parent v 0) named) (of_step ((t.tree.parents.each v lt).least named).holds) where
+    and_from (not (is_none (get_or d.hops v 0)) && not (is_none (get_or d.parent v 0))) (is_parent g d v (get_or d.parent v 0))
+    (and_from (not (is_none (get_or d.hops v 0))) (not (is_none (get_or d.parent v 0))) (is_some_number (get_or d.hops v 0) (hops_some g source d t v lt some)) (is_some_number (get_or d.parent v 0) named)) (of_step ((t.tree.parents.each v lt).least named).holds) where
       of_last : (u : ℕ) × (p : ℕ) × IsLastStep g d.dist d.hops v u p → get_or d.parent v 0 ≢ NONE
       of_last (u, p, s) e = (t.tree.parents.each v lt).none e u (p, s)
       named : get_or d.parent v 0 ≢ NONE
@@ -228,13 +210,11 @@ unreached_passes g source d t v lt =
     elim (cases_eq (get_or d.dist v 0) NONE) [
       | inl none ↦
           three_and (eqb v source) (not (not (is_none (get_or d.dist v 0)))) (is_none (get_or d.hops v 0) && is_none (get_or d.parent v 0))
-          (both (is_none (get_or d.hops v 0)) (is_none (get_or d.parent v 0)) (eq-eqb (get_or d.hops v 0) NONE (no_hops none)) (eq-eqb (get_or d.parent v 0) NONE (no_parent none)))
+          (and_from (is_none (get_or d.hops v 0)) (is_none (get_or d.parent v 0)) (eq-eqb (get_or d.hops v 0) NONE (no_hops none)) (eq-eqb (get_or d.parent v 0) NONE (no_parent none)))
       | inr some ↦
           not_reached (eqb v source) (not (not (is_none (get_or d.dist v 0)))) (not (is_none (get_or d.hops v 0) && is_none (get_or d.parent v 0)))
-          (ap not (not_none (get_or d.dist v 0) some))
+          (ap not (is_some_number (get_or d.dist v 0) some))
     ] where
-      both : (a b : Bool) → a ≡ true → b ≡ true → (a && b) ≡ true
-      both a b x y = grind arith
       no_walk : get_or d.dist v 0 ≡ NONE → (ps : List ℕ) × BestWalk g source d v ps → ⊥
       no_walk none (ps, best) = (along g source d t v ps lt best.walk).0 none
       no_hops : get_or d.dist v 0 ≡ NONE → get_or d.hops v 0 ≡ NONE

@@ -36,7 +36,7 @@ passes g source d e v lt =
     let c : (f reasons.Parent ≡ false) × (find f (reasons.Unreached ∷ []) ≡ None) = find_none f reasons.Parent (reasons.Unreached ∷ []) b.1 in
     record { source_ok = a.0; lowerable = b.0; parent = c.0; unreached = (find_none f reasons.Unreached [] c.1).0 }
 
-is_some_number : (x : ℕ) → x ≢ NONE → not (is_none x) ≡ true
+pub is_some_number : (x : ℕ) → x ≢ NONE → not (is_none x) ≡ true
 is_some_number x h = not_from_false _ (ne_eqb x NONE h)
 
 closed : (g : RawGraph) (source : ℕ) (d : Distances) → ((v : ℕ) → v < vertices g → Passes g source d v) → IsClosed g d.dist
