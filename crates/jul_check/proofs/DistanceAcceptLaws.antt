@@ -1,13 +1,11 @@
 -- Least distances with their hops and parents fail no reason.
-use Rattle.std.proofs.Common.{◌≡◌, ◌≢◌, ℕ, zero, suc, ◌+◌, ◌-◌, ◌<◌, ◌≤◌, Bool, true, false, not, ◌&&◌, ◌||◌, eqb, ltb, List, [], ◌∷◌, ◌++◌, length, get_or, Option, Some, None, sym, ◌∙◌, subst, refl, ap, arith, inl, inr, length-append}
-use Rattle.std.specs.List.{list_any, find, range_with_len}
+use Rattle.std.proofs.Common.{◌≡◌, ◌≢◌, ℕ, zero, suc, ◌+◌, ◌<◌, ◌≤◌, Bool, true, false, not, ◌&&◌, eqb, ltb, List, [], ◌∷◌, ◌++◌, length, get_or, None, sym, ◌∙◌, subst, refl, ap, arith, inl, inr, length-append}
+use Rattle.std.specs.List.{list_any, find}
 use Rattle.std.proofs.lemmas.Bool.{cases_eq, lt-ltb, le-ltb, eq-eqb, ne_eqb, and_from, and_left, and_right}
-use Rattle.std.proofs.lemmas.List.Folds.{list_any_none}
-use Rattle.std.proofs.lemmas.List.FromFn.{length-range_with_len, get_or-range_with_len}
 use Rattle.jul_base.specs.declared.graphs.RawGraph.{RawGraph}
 use Rattle.jul_base.specs.declared.limits.TheConstants.{NONE}
 use Rattle.jul_base.specs.declared.results.Distances.{Distances}
-use Rattle.jul_base.specs.Graph.{vertices, row_start, row_end, target, weight, IsPlaceOf, IsLawful}
+use Rattle.jul_base.specs.Graph.{vertices, target, weight, IsPlaceOf, IsLawful}
 use Rattle.jul_base.specs.Walks.{IsWalk, walk_sum}
 use Rattle.jul_base.specs.Distances.{IsWalkSum, IsDistance}
 use Rattle.jul_base.specs.Trees.{IsHopCount, IsLastStep, AreTree}
@@ -74,7 +72,7 @@ best_walk : (g : RawGraph) (source : ℕ) (d : Distances) → IsTree g source d 
 best_walk g source d t v lt some = of_count ((t.tree.hop_counts.each v lt).least some).holds where
   of_count : IsHopCount g source v (get_or d.hops v 0) → (ps : List ℕ) × BestWalk g source d v ps
   of_count (ps, walk, is, count) =
-    (ps, record { walk = walk; sum = IsDistance-unique g source v (walk_sum g ps) (get_or d.dist v 0) is (t.tree.distances.each v lt); hops = count })
+      (ps, record { walk = walk; sum = IsDistance-unique g source v (walk_sum g ps) (get_or d.dist v 0) is (t.tree.distances.each v lt); hops = count })
 
 -- a vertex that is reached has hops
 hops_some : (g : RawGraph) (source : ℕ) (d : Distances) → IsTree g source d → (v : ℕ) → v < vertices g → get_or d.dist v 0 ≢ NONE → get_or d.hops v 0 ≢ NONE
@@ -88,10 +86,10 @@ step : (g : RawGraph) (source : ℕ) (d : Distances) → IsTree g source d → (
 step g source d t u p at some = of_walk ((t.tree.distances.each u at.vertex).least some).holds where
   of_walk : IsWalkSum g source u (get_or d.dist u 0) → (get_or d.dist (target g p) 0 ≢ NONE) × (get_or d.dist (target g p) 0 ≤ get_or d.dist u 0 + weight g p)
   of_walk (ps, walk, is) =
-    let lt : target g p < vertices g = target_in_range g t.lawful p (place_in_range g t.lawful u p at) in
-    let bound : (get_or d.dist (target g p) 0 ≢ NONE) × (get_or d.dist (target g p) 0 ≤ walk_sum g (ps ++ p ∷ [])) =
-    along g source d t (target g p) (ps ++ p ∷ []) lt (IsWalk-push g source u p ps walk at) in
-    (bound.0, omega (arith, bound.1, walk_sum-push g p ps, is))
+      let lt : target g p < vertices g = target_in_range g t.lawful p (place_in_range g t.lawful u p at) in
+      let bound : (get_or d.dist (target g p) 0 ≢ NONE) × (get_or d.dist (target g p) 0 ≤ walk_sum g (ps ++ p ∷ [])) =
+      along g source d t (target g p) (ps ++ p ∷ []) lt (IsWalk-push g source u p ps walk at) in
+      (bound.0, omega (arith, bound.1, walk_sum-push g p ps, is))
 
 -- ---- the last place of a best walk
 
@@ -114,10 +112,10 @@ last_step g source d t v lt qs best e =
       hops_more : {u p : ℕ} → (rs : List ℕ) × BestWalk g source d u rs → u < vertices g → IsPlaceOf g u p → target g p ≡ v → get_or d.dist u 0 + weight g p ≡ get_or d.dist v 0 →
           get_or d.hops v 0 ≤ get_or d.hops u 0 + 1
       hops_more {u} {p} (rs, r) u_lt at to sum =
-        let walk : IsWalk g source (rs ++ p ∷ []) v = subst (IsWalk g source (rs ++ p ∷ [])) to (IsWalk-push g source u p rs r.walk at) in
-        let bound : (get_or d.hops v 0 ≢ NONE) × (get_or d.hops v 0 ≤ length (rs ++ p ∷ [])) =
-        hops_along g source d t v (rs ++ p ∷ []) lt walk (walk_sum-push g p rs ∙ ap (λ x. x + weight g p) r.sum ∙ sum) in
-        omega (arith, bound.1, length-append rs (p ∷ []), r.hops)
+          let walk : IsWalk g source (rs ++ p ∷ []) v = subst (IsWalk g source (rs ++ p ∷ [])) to (IsWalk-push g source u p rs r.walk at) in
+          let bound : (get_or d.hops v 0 ≢ NONE) × (get_or d.hops v 0 ≤ length (rs ++ p ∷ [])) =
+          hops_along g source d t v (rs ++ p ∷ []) lt walk (walk_sum-push g p rs ∙ ap (λ x. x + weight g p) r.sum ∙ sum) in
+          omega (arith, bound.1, length-append rs (p ∷ []), r.hops)
 
 -- a vertex that is reached, and isn't the source, has a last step
 has_last_step : (g : RawGraph) (source : ℕ) (d : Distances) → IsTree g source d → (v : ℕ) → v < vertices g → v ≢ source → get_or d.dist v 0 ≢ NONE →
@@ -155,10 +153,13 @@ source_passes g source d t v =
     ] where
       dist : get_or d.dist source 0 ≡ 0
       dist = omega (arith, (along g source d t source [] t.start refl).1)
+
       hops : get_or d.hops source 0 ≡ 0
       hops = omega (arith, (hops_along g source d t source [] t.start refl (sym dist)).1)
+
       no_step : (u : ℕ) → (p : ℕ) × IsLastStep g d.dist d.hops source u p → ⊥
       no_step u (p, s) = omega (arith, s.hop, hops)
+
       parent : get_or d.parent source 0 ≡ NONE
       parent = elim (cases_eq (get_or d.parent source 0) NONE) [
         | inl e ↦ e
@@ -173,8 +174,8 @@ lowerable_passes g source d t v lt =
     ] where
       at_place : get_or d.dist v 0 ≢ NONE → (p : ℕ) → IsPlaceOf g v p → is_lowered g d.dist v p ≡ false
       at_place some p at =
-        let s : (get_or d.dist (target g p) 0 ≢ NONE) × (get_or d.dist (target g p) 0 ≤ get_or d.dist v 0 + weight g p) = step g source d t v p at some in
-        is_lowered-not g d.dist v p (target g p) (weight g p) refl refl s.0 (le-ltb (get_or d.dist v 0 + weight g p) (get_or d.dist (target g p) 0) s.1)
+          let s : (get_or d.dist (target g p) 0 ≢ NONE) × (get_or d.dist (target g p) 0 ≤ get_or d.dist v 0 + weight g p) = step g source d t v p at some in
+          is_lowered-not g d.dist v p (target g p) (weight g p) refl refl s.0 (le-ltb (get_or d.dist v 0 + weight g p) (get_or d.dist (target g p) 0) s.1)
 
 -- the parent of a vertex that has a last step
 parent_holds : (g : RawGraph) (source : ℕ) (d : Distances) → IsTree g source d → (v u p : ℕ) → IsLastStep g d.dist d.hops v u p → is_parent g d v u ≡ true
@@ -190,8 +191,10 @@ has_parent_holds g source d t v lt other some =
     (and_from (not (is_none (get_or d.hops v 0))) (not (is_none (get_or d.parent v 0))) (is_some_number (get_or d.hops v 0) (hops_some g source d t v lt some)) (is_some_number (get_or d.parent v 0) named)) (of_step ((t.tree.parents.each v lt).least named).holds) where
       of_last : (u : ℕ) × (p : ℕ) × IsLastStep g d.dist d.hops v u p → get_or d.parent v 0 ≢ NONE
       of_last (u, p, s) e = (t.tree.parents.each v lt).none e u (p, s)
+
       named : get_or d.parent v 0 ≢ NONE
       named = of_last (has_last_step g source d t v lt other some)
+
       of_step : (p : ℕ) × IsLastStep g d.dist d.hops v (get_or d.parent v 0) p → is_parent g d v (get_or d.parent v 0) ≡ true
       of_step (p, s) = parent_holds g source d t v (get_or d.parent v 0) p s
 
@@ -217,13 +220,16 @@ unreached_passes g source d t v lt =
     ] where
       no_walk : get_or d.dist v 0 ≡ NONE → (ps : List ℕ) × BestWalk g source d v ps → ⊥
       no_walk none (ps, best) = (along g source d t v ps lt best.walk).0 none
+
       no_hops : get_or d.dist v 0 ≡ NONE → get_or d.hops v 0 ≡ NONE
       no_hops none = elim (cases_eq (get_or d.hops v 0) NONE) [
         | inl e ↦ e
         | inr ne ↦ absurd (no_walk none (best_walk g source d t v lt ne))
       ]
+
       no_step : get_or d.dist v 0 ≡ NONE → (u : ℕ) → (p : ℕ) × IsLastStep g d.dist d.hops v u p → ⊥
       no_step none u (p, s) = (step g source d t u p s.from s.reached).0 (ap (λ x. get_or d.dist x 0) s.to ∙ none)
+
       no_parent : get_or d.dist v 0 ≡ NONE → get_or d.parent v 0 ≡ NONE
       no_parent none = elim (cases_eq (get_or d.parent v 0) NONE) [
         | inl e ↦ e

@@ -1,4 +1,4 @@
-use Rattle.std.proofs.Common.{◌≡◌, ◌<◌, sym, ◌∙◌, arith}
+use Rattle.std.proofs.Common.{◌<◌, sym, ◌∙◌, arith}
 use Rattle.jul_base.specs.Graph.{vertices}
 use Rattle.jul_check.specs.DistanceChecks.{distance_reasons, fails_distances}
 use Rattle.jul_check.proofs.VerdictLaws.{verdict_from-passes, verdict_from-fails}
