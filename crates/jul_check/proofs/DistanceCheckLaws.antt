@@ -1,14 +1,13 @@
 -- A yes on distances implies that they are right: no place lowers any, and the parents lead back to the source.
-use Rattle.std.proofs.Common.{◌≡◌, ◌≢◌, ℕ, zero, suc, ◌+◌, ◌-◌, ◌<◌, ◌≤◌, Bool, true, false, not, ◌&&◌, ◌||◌, eqb, ltb, List, [], ◌∷◌, ◌++◌, length, get_or, Option, Some, None, sym, ◌∙◌, subst, refl, ap, arith, inl, inr}
-use Rattle.std.specs.List.{list_any, filter_map, range_with_len, cons_option, find, Any}
-use Rattle.std.proofs.lemmas.Bool.{cases_eq, cases_Bool, and_parts, or_parts, not-true, eqb-true, eqb-false, ltb-true, ltb-false, ne_eqb, eq-eqb, both_ways, not_from_false}
-use Rattle.std.proofs.lemmas.List.Folds.{list_any_at, Any-from_list_any}
+use Rattle.std.proofs.Common.{◌≡◌, ◌≢◌, ℕ, zero, suc, ◌+◌, ◌-◌, ◌<◌, Bool, true, false, not, ◌&&◌, eqb, ltb, [], ◌∷◌, ◌++◌, length, get_or, None, sym, ◌∙◌, subst, refl, ap, arith, inl, inr}
+use Rattle.std.specs.List.{list_any, find, Any}
+use Rattle.std.proofs.lemmas.Bool.{cases_eq, and_parts, or_parts, not-true, eqb-true, eqb-false, ltb-true, ltb-false, ne_eqb, eq-eqb, not_from_false}
+use Rattle.std.proofs.lemmas.List.Folds.{Any-from_list_any}
 use Rattle.std.proofs.lemmas.List.FromFn.{length-range_with_len, get_or-range_with_len}
 use Rattle.jul_base.specs.declared.graphs.RawGraph.{RawGraph}
 use Rattle.jul_base.specs.declared.results.Distances.{Distances}
 use Rattle.jul_check.specs.declared.verdicts.Reason.{Reason}
 use Rattle.jul_check.specs.declared.verdicts.Reason.TheVariants as reasons
-use Rattle.jul_check.specs.declared.verdicts.Verdict.{Verdict}
 use Rattle.jul_check.specs.declared.verdicts.Verdict.TheVariants.{Yes}
 use Rattle.jul_base.specs.declared.limits.TheConstants.{NONE}
 use Rattle.jul_base.specs.Graph.{vertices, row_start, row_end, target, weight, IsPlaceOf}
@@ -36,7 +35,7 @@ passes g source d e v lt =
     let c : (f reasons.Parent ≡ false) × (find f (reasons.Unreached ∷ []) ≡ None) = find_none f reasons.Parent (reasons.Unreached ∷ []) b.1 in
     record { source_ok = a.0; lowerable = b.0; parent = c.0; unreached = (find_none f reasons.Unreached [] c.1).0 }
 
-is_some_number : (x : ℕ) → x ≢ NONE → not (is_none x) ≡ true
+pub is_some_number : (x : ℕ) → x ≢ NONE → not (is_none x) ≡ true
 is_some_number x h = not_from_false _ (ne_eqb x NONE h)
 
 closed : (g : RawGraph) (source : ℕ) (d : Distances) → ((v : ℕ) → v < vertices g → Passes g source d v) → IsClosed g d.dist

@@ -8,3 +8,5 @@ pub mod PlaceLaws
 pub mod LoweringLaws
 pub mod TreeMarkLaws
 pub mod DistanceCheckLaws
+pub mod DistanceAcceptLaws
+pub mod DistanceCheckRows

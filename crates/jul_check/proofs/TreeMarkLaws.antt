@@ -1,7 +1,7 @@
 -- What a place, and a row, adds to the marks.
-use Rattle.std.proofs.Common.{◌≡◌, ◌≢◌, ℕ, suc, ◌+◌, ◌-◌, ◌<◌, ◌≤◌, Bool, true, false, not, ◌&&◌, ◌||◌, eqb, ltb, List, [], ◌∷◌, length, get_or, set, sym, ◌∙◌, subst, refl, ap, arith, inl, inr, length-set, get_or-set_same, get_or-set_other}
-use Rattle.std.specs.List.{list_any, range_with_len}
-use Rattle.std.proofs.lemmas.Bool.{cases_eq, cases_lt, cases_Bool, lt-ltb, le-ltb, eq-eqb, ne_eqb, eqb-true}
+use Rattle.std.proofs.Common.{◌≡◌, ◌≢◌, ℕ, ◌+◌, ◌<◌, Bool, true, false, not, ◌&&◌, ◌||◌, eqb, ltb, List, [], ◌∷◌, get_or, set, sym, ◌∙◌, ap, arith, inl, inr, length-set, get_or-set_same, get_or-set_other}
+use Rattle.std.specs.List.{list_any}
+use Rattle.std.proofs.lemmas.Bool.{cases_eq, lt-ltb, eq-eqb, ne_eqb, and_from, and_left, and_right, not_from_false}
 use Rattle.std.proofs.lemmas.Bool.Decides.{nat_tests}
 use Rattle.jul_base.specs.declared.graphs.RawGraph.{RawGraph}
 use Rattle.jul_base.specs.declared.results.Distances.{Distances}
@@ -44,12 +44,6 @@ more_or m r e b h = grind arith
 all_or : (m r e b : Bool) → e ≡ true → b ≡ true → (m || (r || (e && b))) ≡ true
 all_or m r e b h i = grind arith
 
-and_false : (e b : Bool) → e ≡ false → (e && b) ≡ false
-and_false e b h = grind arith
-
-and_false_right : (e b : Bool) → b ≡ false → (e && b) ≡ false
-and_false_right e b h = grind arith
-
 -- a place that bears its target out marks it, and no other
 pub AreMarks-more : (g : RawGraph) (d : Distances) (u k t w : ℕ) (marks : List Bool) → t < vertices g → target g (row_start g u + k) ≡ t → weight g (row_start g u + k) ≡ w →
     is_borne d u t w ≡ true → AreMarks (vertices g) (marked_to g d u k) marks → AreMarks (vertices g) (marked_to g d u (k + 1)) (set marks t true)
@@ -61,7 +55,7 @@ AreMarks-more g d u k t w marks lt to has borne are =
     (λ v ne.
     let other : target g p ≢ v = λ e. ne (sym e ∙ to) in
     ap (λ b. is_marked g d u v || b) (in_row_more g d u k v)
-    ∙ more_or (is_marked g d u v) (is_marked_in_row g d u k v) (eqb (target g p) v) (is_borne d u v (weight g p)) (and_false (eqb (target g p) v) _ (ne_eqb (target g p) v other)))
+    ∙ more_or (is_marked g d u v) (is_marked_in_row g d u k v) (eqb (target g p) v) (is_borne d u v (weight g p)) (and_left (eqb (target g p) v) _ (ne_eqb (target g p) v other)))
 
 -- one that doesn't marks none
 pub AreMarks-same : (g : RawGraph) (d : Distances) (u k t w : ℕ) (marks : List Bool) → target g (row_start g u + k) ≡ t → weight g (row_start g u + k) ≡ w →
@@ -73,8 +67,8 @@ AreMarks-same g d u k t w marks to has borne are =
     ap (λ b. is_marked g d u v || b) (in_row_more g d u k v)
     ∙ more_or (is_marked g d u v) (is_marked_in_row g d u k v) (eqb (target g p) v) (is_borne d u v (weight g p))
     (elim (cases_eq (target g p) v) [
-      | inl e ↦ and_false_right (eqb (target g p) v) _ (ap (λ x. is_borne d u v x) has ∙ ap (λ x. is_borne d u x w) (sym e ∙ to) ∙ borne)
-      | inr ne ↦ and_false (eqb (target g p) v) _ (ne_eqb (target g p) v ne)
+      | inl e ↦ and_right (eqb (target g p) v) _ (ap (λ x. is_borne d u v x) has ∙ ap (λ x. is_borne d u x w) (sym e ∙ to) ∙ borne)
+      | inr ne ↦ and_left (eqb (target g p) v) _ (ne_eqb (target g p) v ne)
     ]))
 
 -- ---- a row more
@@ -108,7 +102,7 @@ is_parent-row g d u v lt some =
     swap_parent : (eqb (parent_of d v) u && is_parent g d v (parent_of d v)) ≡ (eqb (parent_of d v) u && is_parent g d v u)
     swap_parent = elim (cases_eq (parent_of d v) u) [
       | inl e ↦ ap (λ x. eqb (parent_of d v) u && is_parent g d v x) e
-      | inr ne ↦ and_false (eqb (parent_of d v) u) (is_parent g d v (parent_of d v)) (ne_eqb (parent_of d v) u ne) ∙ sym (and_false (eqb (parent_of d v) u) (is_parent g d v u) (ne_eqb (parent_of d v) u ne))
+      | inr ne ↦ and_left (eqb (parent_of d v) u) (is_parent g d v (parent_of d v)) (ne_eqb (parent_of d v) u ne) ∙ sym (and_left (eqb (parent_of d v) u) (is_parent g d v u) (ne_eqb (parent_of d v) u ne))
     ]
 
 -- all places of u are read
@@ -141,15 +135,12 @@ AreMarks-past g d u marks none are =
         | inl e ↦
             ap (λ x. eqb (parent_of d v) u && is_parent g d v x) e
             ∙ no_parent (ltb u (vertices g)) (not (is_none (get_or d.dist u 0))) (not (is_none (get_or d.hops u 0))) (list_any (is_tight g d.dist u v) (places_of g u)) (eqb (parent_of d v) u) (eqb (get_or d.hops u 0 + 1) (get_or d.hops v 0)) none
-        | inr ne ↦ and_false (eqb (parent_of d v) u) (is_parent g d v (parent_of d v)) (ne_eqb (parent_of d v) u ne)
+        | inr ne ↦ and_left (eqb (parent_of d v) u) (is_parent g d v (parent_of d v)) (ne_eqb (parent_of d v) u ne)
       ]
 
 -- ---- what is read of a vertex
 
-both : (a b : Bool) → a ≡ false → b ≡ false → (not a && not b) ≡ true
-both a b h i = grind arith
-
 pub has_numbers-some : (d : Distances) (u x y : ℕ) → x ≡ get_or d.dist u 0 → y ≡ get_or d.hops u 0 → x ≢ NONE → y ≢ NONE → has_numbers d u ≡ true
 has_numbers-some d u x y dist hops x_some y_some =
-    both (is_none (get_or d.dist u 0)) (is_none (get_or d.hops u 0))
-    (ne_eqb (get_or d.dist u 0) NONE (λ e. x_some (dist ∙ e))) (ne_eqb (get_or d.hops u 0) NONE (λ e. y_some (hops ∙ e)))
+    and_from (not (is_none (get_or d.dist u 0))) (not (is_none (get_or d.hops u 0)))
+    (not_from_false (is_none (get_or d.dist u 0)) (ne_eqb (get_or d.dist u 0) NONE (λ e. x_some (dist ∙ e)))) (not_from_false (is_none (get_or d.hops u 0)) (ne_eqb (get_or d.hops u 0) NONE (λ e. y_some (hops ∙ e))))

@@ -1,11 +1,11 @@
 -- Marks on the vertices whose parents bear them out, as far as the rows were read.
-use Rattle.std.specs.Prelude.{◌≡◌, ℕ, ◌+◌, ◌<◌, Bool, false, not, ◌&&◌, ◌||◌, List, length, slice_index, nat_lt, ◌==◌}
+use Rattle.std.specs.Prelude.{◌≡◌, ℕ, ◌+◌, ◌<◌, Bool, false, not, ◌&&◌, List, length, slice_index, nat_lt, ◌==◌}
 use Rattle.std.specs.List.{list_any, range_with_len, slice_index_or}
 use Rattle.jul_base.specs.declared.graphs.RawGraph.{RawGraph}
 use Rattle.jul_base.specs.declared.results.Distances.{Distances}
-use Rattle.jul_base.specs.Graph.{vertices, row_start, target, weight}
+use Rattle.jul_base.specs.Graph.{row_start, target, weight}
 use Rattle.jul_check.specs.Verdicts.{is_none}
-use Rattle.jul_check.specs.DistanceChecks.{is_tight, is_parent}
+use Rattle.jul_check.specs.DistanceChecks.{is_parent}
 
 abbrev pub parent_of : Distances → ℕ → ℕ
 parent_of d v = slice_index d.parent v

@@ -5,6 +5,7 @@
 ghost use Rattle.std.specs.Prelude.{◌≡◌, ◌+◌, ◌<◌, Bool, false, length, slice_index, nat_lt, find, IfOk};
 ghost use Rattle.jul_base.specs.Graph.{vertices, IsLawful};
 ghost use Rattle.jul_base.specs.Distances.{AreDistances};
+ghost use Rattle.jul_base.specs.Trees.{AreTree};
 ghost use Rattle.jul_check.specs.DistanceChecks.{is_lowerable, is_parent, is_reached};
 ghost use Rattle.jul_check.specs.DistanceChecks.{fails_distances, distance_reasons, distances_verdict};
 ghost use Rattle.jul_check.specs.TreeMarks.{parent_of, AreMarks};
@@ -20,7 +21,8 @@ use std::alloc::{AllocError, Global};
 /// Whether the columns are distances from the source with hops and parents that bear them out, or the least vertex
 /// that shows they are not.
 ///
-/// A yes implies that each number of `dist` is the least distance of its vertex. Memory that runs out is the only refusal.
+/// A yes implies that each number of `dist` is the least distance of its vertex. Distances with the least hops and the
+/// least parents are accepted. Memory that runs out is the only refusal.
 pub fn check_distances(
     alloc: Global,
     rows: &Rows,
@@ -34,6 +36,8 @@ pub fn check_distances(
 
     ensures verdict { IfOk result (λ verdict. verdict ≡ distances_verdict rows.now source d.now) }
     ensures sound { IfOk result (λ verdict. verdict ≡ Yes → AreDistances rows.now source d.now.dist) }
+    ensures accepts { IfOk result (λ verdict.
+        AreTree rows.now source d.now.dist d.now.hops d.now.parent → verdict ≡ Yes) }
 {
     let marks = mark_tree(alloc, rows, d)?;
     Ok(first_failing(rows, source, d, marks.as_slice()))
@@ -47,7 +51,8 @@ fn first_failing(rows: &Rows, source: u32, d: &Distances, marks: &[bool]) -> Ver
     requires marks { AreMarks (vertices rows.now)
         (λ v. is_parent rows.now d.now v (parent_of d.now v)) marks.now }
 
-    ensures { result ≡ distances_verdict rows.now source d.now }
+    ensures verdict { result ≡ distances_verdict rows.now source d.now }
+    ensures lawful { IsLawful rows.now }
 {
     for v in 0..rows.n() {
         if let Some(reason) = first_reason(rows, source, d, v, marks[v as usize]) {

@@ -1,11 +1,11 @@
-use Rattle.std.proofs.Common.{◌≡◌, ◌<◌, sym, ◌∙◌, arith}
+use Rattle.std.proofs.Common.{◌<◌, sym, ◌∙◌, arith}
 use Rattle.jul_base.specs.Graph.{vertices}
 use Rattle.jul_check.specs.DistanceChecks.{distance_reasons, fails_distances}
 use Rattle.jul_check.proofs.VerdictLaws.{verdict_from-passes, verdict_from-fails}
 use Rattle.jul_check.proofs.distance_checks.first_failing.Goals as goal
 
-pub returns-in-Some : goal.returns-in-Some
-returns-in-Some c =
+pub returns-in-Some-clause-verdict : goal.returns-in-Some-clause-verdict
+returns-in-Some-clause-verdict c =
     let lt : c.loop-v.v < vertices c.args.rows.now = omega (arith, c.loop-v-test.true, c.n-v-end.ensures.count) in
     sym (verdict_from-fails (vertices c.args.rows.now) distance_reasons (fails_distances c.args.rows.now c.args.source c.args.d.now) c.loop-v.v c.in-Some.reason lt (sym c.in-Some.ensures))
     ∙ c.loop-v.invariant
