@@ -1,21 +1,21 @@
 -- The order by level: who stands before a vertex of the sorted list, and how far the greatest core is known.
-use Rattle.std.proofs.Common.{◌≡◌, ◌≢◌, ℕ, ◌+◌, ◌<◌, ◌≤◌, max, Bool, true, false, not, ◌&&◌, ◌||◌, eqb, ltb, cond, List, [], ◌∷◌, map, take, length, get_or, set, sym, ◌∙◌, subst, refl, ap, arith, inl, inr}
-use Rattle.std.specs.List.{list_any, All, Any, Contains}
+use Rattle.std.proofs.Common.{◌≡◌, ◌≢◌, ℕ, ◌+◌, ◌<◌, ◌≤◌, max, Bool, true, false, ◌&&◌, ◌||◌, eqb, ltb, cond, List, map, take, length, get_or, set, sym, ◌∙◌, subst, refl, ap, arith, inl, inr}
+use Rattle.std.specs.List.{list_any, All}
 use Rattle.std.specs.List.Sorted.{IsPermutation, IsSorted}
 use Rattle.std.specs.Cmp.{IsStrictWeakOrder}
 use Rattle.std.proofs.Common.{Ordering, Less, Equal, Greater}
 use Rattle.std.specs.Ordering.{is_lt, nat_cmp, ordering_then}
-use Rattle.std.proofs.lemmas.Bool.{cases_Bool, cases_eq, cases_lt, both_ways, and_parts, and_from, ltb-true, le-ltb}
+use Rattle.std.proofs.lemmas.Bool.{cases_eq, cases_lt, both_ways, and_parts, and_from, ltb-true, le-ltb}
 use Rattle.std.proofs.lemmas.Bool.Decides.{nat_tests}
 use Rattle.std.proofs.lemmas.List.{get_or-take, get_or_default, get_or-set_same, get_or-set_other, length-set, length-take-le}
 use Rattle.std.proofs.lemmas.List.Sorted.{sorted_far, All-permutation, Contains-permutation, list_any-IsPermutation}
 use Rattle.std.proofs.lemmas.List.Folds.{list_any_at, list_any_more, Any-from_list_any}
-use Rattle.std.proofs.lemmas.List.FromFn.{length-map-range_with_len, get_or-map-range_with_len}
+use Rattle.std.proofs.lemmas.List.FromFn.{length-map-range_with_len, get_or-map-range_with_len, map-range_with_len_more}
 use Rattle.jul_base.specs.declared.results.Cores.{Cores}
 use Rattle.jul_base.specs.Numbers.{below}
 use Rattle.jul_check.specs.CoreChecks.{core_of, level_of, is_before, is_outranked}
 use Rattle.jul_check.specs.CoreOrder.{leveled, IsByLevel}
-use Rattle.jul_check.specs.TreeMarks.{AreMarks}
+use Rattle.jul_check.specs.Marks.{AreMarks}
 use Rattle.jul_check.proofs.TestLaws.{same_test, list_any-map}
 
 -- ---- pairs in order
@@ -82,6 +82,15 @@ IsByLevel-from_sort c n order moved up = record {
       let there : IsEntry c n (get_or order j d) = entries c n order moved j d lt in
       rw (sym here.level, sym there.level) far;
 }
+
+-- one more vertex behind its level
+pub leveled_more : (c : Cores) (v level : ℕ) (before after : List (ℕ × ℕ)) → after ≡ before ++ (level, v) ∷ [] → level ≡ level_of c v →
+    before ≡ map (leveled c) (below v) → after ≡ map (leveled c) (below (v + 1))
+leveled_more c v level before after pushed is so_far =
+    pushed
+    ∙ ap (λ l. before ++ (l, v) ∷ []) is
+    ∙ ap (λ ps. ps ++ leveled c v ∷ []) so_far
+    ∙ sym (map-range_with_len_more (leveled c) 0 v v (omega arith))
 
 -- every vertex stands somewhere in the list
 pub place_in_order : (c : Cores) (n : ℕ) (order : List (ℕ × ℕ)) → IsByLevel c n order → (v : ℕ) → v < n →

@@ -1,6 +1,6 @@
 -- A yes on a cover: the chosen sets hold every element.
-use Rattle.std.proofs.Common.{◌≡◌, ◌≢◌, ℕ, ◌<◌, ◌≤◌, Bool, true, false, not, ◌&&◌, ◌||◌, eqb, ltb, List, [], ◌∷◌, get_or, None, sym, ◌∙◌, ap, subst, refl, arith, inl, inr}
-use Rattle.std.specs.List.{find, list_any, Contains}
+use Rattle.std.proofs.Common.{◌≡◌, ◌≢◌, ℕ, ◌<◌, Bool, true, false, not, ◌&&◌, ltb, [], ◌∷◌, get_or, None, sym, ◌∙◌, ap, arith}
+use Rattle.std.specs.List.{find, Contains}
 use Rattle.std.proofs.lemmas.Bool.{both_ways, eq-eqb, ltb-true, not-false, or_parts}
 use Rattle.std.proofs.lemmas.List.Folds.{list_any_at}
 use Rattle.std.proofs.lemmas.List.FromFn.{length-range_with_len, get_or-range_with_len}
@@ -23,7 +23,7 @@ is_element-from_IsElement g e (s, lt, held) =
     let in_set : ℕ → Bool = λ r. has (set_of g r) e in
     let here : get_or (below (vertices g)) s 0 ≡ s = get_or-range_with_len 0 (vertices g) s 0 lt ∙ omega arith in
     list_any_at in_set (below (vertices g)) s 0 (omega (arith, length-range_with_len 0 (vertices g)))
-        (ap in_set here ∙ has-from_Contains (set_of g s) e held)
+    (ap in_set here ∙ has-from_Contains (set_of g s) e held)
 
 -- a test under another that holds
 and_false : (a b : Bool) → a ≡ true → (a && b) ≡ false → b ≡ false

@@ -14,9 +14,9 @@ use Rattle.jul_base.specs.Sets.{has, set_of}
 use Rattle.jul_base.proofs.PeelLaws.{has_filter, has_kept, has_below}
 use Rattle.jul_check.specs.CoverChecks.{by_of, is_element, is_in_its_set}
 use Rattle.jul_check.specs.CoverMarks.{is_seen, is_held, AreCoverMarks}
-use Rattle.jul_check.specs.TreeMarks.{AreMarks}
+use Rattle.jul_check.specs.Marks.{AreMarks}
 use Rattle.jul_check.proofs.TestLaws.{same_test, list_any-same}
-use Rattle.jul_check.proofs.TreeMarkLaws.{AreMarks-kept, AreMarks-set}
+use Rattle.jul_check.proofs.MarkLaws.{AreMarks-kept, AreMarks-set}
 
 -- ---- one more place
 
@@ -39,15 +39,15 @@ module _ (g : RawGraph) (c : Cover) (s : ℕ) (ws : List ℕ) (w : ℕ) (ws' : L
   element_more es are =
       let past : ℕ → Bool = λ v. list_any (λ r. has (row g r) v) (take s (below (vertices g))) in
       AreMarks-set (vertices g) w (is_seen g s ws) (is_seen g s ws') es in_range are (or_right (past w) (has ws' w) (has_last ws w ws' more))
-          (λ v other. ap (λ b. past v || b) (has_others ws w ws' more v other))
+      (λ v other. ap (λ b. past v || b) (has_others ws w ws' more v other))
 
   -- the place leads to a vertex that row s is said to cover
   held_more : (hs : List Bool) → by_of c w ≡ s → AreMarks (vertices g) (is_held g c s ws) hs → AreMarks (vertices g) (is_held g c s ws') (set hs w true)
   held_more hs its are =
       let past : ℕ → Bool = λ v. ltb (by_of c v) s && has (row g (by_of c v)) v in
       AreMarks-set (vertices g) w (is_held g c s ws) (is_held g c s ws') hs in_range are
-          (or_right (past w) _ (and_from _ _ (eq-eqb (by_of c w) s its) (has_last ws w ws' more)))
-          (λ v other. ap (λ b. past v || (eqb (by_of c v) s && b)) (has_others ws w ws' more v other))
+      (or_right (past w) _ (and_from _ _ (eq-eqb (by_of c w) s its) (has_last ws w ws' more)))
+      (λ v other. ap (λ b. past v || (eqb (by_of c v) s && b)) (has_others ws w ws' more v other))
 
   -- it leads to another
   held_passed : (hs : List Bool) → by_of c w ≢ s → AreMarks (vertices g) (is_held g c s ws) hs → AreMarks (vertices g) (is_held g c s ws') hs

@@ -8,7 +8,7 @@ use Rattle.jul_base.specs.Graph.{vertices, row}
 use Rattle.jul_base.specs.Sets.{has}
 use Rattle.jul_check.specs.declared.cover_marks.Marks.{Marks}
 use Rattle.jul_check.specs.CoverChecks.{by_of}
-use Rattle.jul_check.specs.TreeMarks.{AreMarks}
+use Rattle.jul_check.specs.Marks.{AreMarks}
 
 -- whether v stands in one of the first s rows, or in the list behind them
 abbrev pub is_seen : RawGraph → ℕ → List ℕ → ℕ → Bool

@@ -4,7 +4,7 @@
 ghost use Rattle.std.specs.Prelude.{◌≡◌, length, IfOk};
 ghost use Rattle.jul_check.specs.CoreChecks.{is_outranked};
 ghost use Rattle.jul_check.specs.CoreOrder.{IsByLevel};
-ghost use Rattle.jul_check.specs.TreeMarks.{AreMarks};
+ghost use Rattle.jul_check.specs.Marks.{AreMarks};
 
 use jul_base::Cores;
 use std::alloc::{AllocError, Global};
@@ -12,7 +12,7 @@ use std::alloc::{AllocError, Global};
 /// A mark for each of `n` vertices, set where some vertex before it has a greater core.
 ///
 /// Takes memory for a pair and a mark a vertex.
-pub fn mark_outranked(alloc: Global, c: &Cores, n: u32) -> Result<Vec<bool>, AllocError>
+pub(crate) fn mark_outranked(alloc: Global, c: &Cores, n: u32) -> Result<Vec<bool>, AllocError>
     requires core { length c.now.core ≡ n }
     requires level { length c.now.level ≡ n }
 

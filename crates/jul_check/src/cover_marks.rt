@@ -3,7 +3,7 @@ ghost use Rattle.std.specs.Prelude.{◌≡◌, ◌+◌, ◌<◌, [], length, IfO
 ghost use Rattle.jul_base.specs.Graph.{vertices};
 ghost use Rattle.jul_check.specs.CoverChecks.{is_element, is_in_its_set};
 ghost use Rattle.jul_check.specs.CoverMarks.{HasMarked};
-ghost use Rattle.jul_check.specs.TreeMarks.{AreMarks};
+ghost use Rattle.jul_check.specs.Marks.{AreMarks};
 
 use jul_base::Cover;
 use jul_rows::Rows;
@@ -11,15 +11,15 @@ use std::alloc::{AllocError, Global};
 
 /// Two marks for each vertex.
 #[derive(Drop)]
-pub struct Marks {
+pub(crate) struct Marks {
     /// Whether the vertex stands in some set.
-    pub element: Vec<bool>,
+    pub(crate) element: Vec<bool>,
     /// Whether the vertex stands in the set that is said to cover it.
-    pub held: Vec<bool>,
+    pub(crate) held: Vec<bool>,
 }
 
 /// The marks of all vertices. Takes memory for two marks a vertex.
-pub fn mark_all(alloc: Global, rows: &Rows, c: &Cover) -> Result<Marks, AllocError>
+pub(crate) fn mark_all(alloc: Global, rows: &Rows, c: &Cover) -> Result<Marks, AllocError>
     requires by { length c.now.by ≡ vertices rows.now }
 
     ensures element { IfOk result (λ marks.

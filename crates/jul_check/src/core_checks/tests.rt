@@ -34,23 +34,13 @@ fn no(vertex: u32, reason: Reason) -> Verdict {
 #[test]
 fn a_triangle_with_a_tail(rt: HostRuntime) -> Result<(), Fail> {
     let alloc = rt.alloc();
-    let rows = rows_of(
-        &rt,
-        alloc,
-        [&[0, 2, 4, 7], &[1, 2, 0, 2, 0, 1, 3, 2], &[]],
-    )?;
+    let rows = rows_of(&rt, alloc, [&[0, 2, 4, 7], &[1, 2, 0, 2, 0, 1, 3, 2], &[]])?;
     let cases: [([[u64; 2]; 4], Verdict); 6] = [
         ([[2, 1], [2, 1], [2, 1], [1, 0]], Verdict::Yes),
         // The levels needn't be those of rounds.
         ([[2, 3], [2, 9], [2, 5], [1, 2]], Verdict::Yes),
-        (
-            [[2, 1], [2, 1], [2, 1], [2, 0]],
-            no(3, Reason::LowerBound),
-        ),
-        (
-            [[0, 0], [0, 0], [0, 0], [0, 0]],
-            no(0, Reason::UpperBound),
-        ),
+        ([[2, 1], [2, 1], [2, 1], [2, 0]], no(3, Reason::LowerBound)),
+        ([[0, 0], [0, 0], [0, 0], [0, 0]], no(0, Reason::UpperBound)),
         // The tail comes last by its level, and by its id where levels are equal.
         ([[2, 0], [2, 0], [2, 0], [1, 1]], no(3, Reason::Order)),
         ([[2, 0], [2, 0], [2, 0], [1, 0]], no(3, Reason::Order)),

@@ -1,4 +1,4 @@
-use Rattle.std.proofs.Common.{ℕ, length, refl, arith}
+use Rattle.std.proofs.Common.{refl, arith}
 use Rattle.jul_check.proofs.CoreOrderLaws.{entry_at, MarksSoFar-none, MarksSoFar-more, AreMarks-from_all}
 use Rattle.jul_check.proofs.core_order.mark_in_order.Goals as goal
 
