@@ -1,6 +1,5 @@
-use Rattle.std.proofs.Common.{◌≡◌, ℕ, List, [], ◌∷◌, ◌++◌, map, sym, ◌∙◌, ap, subst, arith}
+use Rattle.std.proofs.Common.{◌≡◌, ℕ, List, map, ◌∙◌, ap, subst, arith}
 use Rattle.std.specs.List.Sorted.{IsPermutation}
-use Rattle.std.proofs.lemmas.List.FromFn.{map-range_with_len_more}
 use Rattle.jul_base.specs.Numbers.{below}
 use Rattle.jul_check.specs.CoreOrder.{leveled}
 use Rattle.jul_check.proofs.CoreOrderLaws.{IsByLevel-from_sort, leveled_more}
