@@ -28,14 +28,14 @@ one_le false true h = omega arith
 one_le false false h = omega arith
 
 -- a test that holds of more members counts more
-count_by-le : (p q : ℕ → Bool) (xs : List ℕ) → ((x : ℕ) → has xs x ≡ true → p x ≡ true → q x ≡ true) → count_by p xs ≤ count_by q xs
+pub count_by-le : (p q : ℕ → Bool) (xs : List ℕ) → ((x : ℕ) → has xs x ≡ true → p x ≡ true → q x ≡ true) → count_by p xs ≤ count_by q xs
 count_by-le p q [] more = omega arith
 count_by-le p q (x ∷ xs) more =
     let rest : count_by p xs ≤ count_by q xs = count_by-le p q xs (λ y h. more y (or_right _ _ h)) in
     let here : cond {A = ℕ} (p x) 1 0 ≤ cond (q x) 1 0 = one_le (p x) (q x) (more x (or_left _ _ (eq-eqb x x refl))) in
     omega (arith, rest, here, sum_by-cons (λ y. cond (p y) 1 0) x xs, sum_by-cons (λ y. cond (q y) 1 0) x xs)
 
-row_in_range : (g : RawGraph) → IsLawful g → (u w : ℕ) → has (row g u) w ≡ true → w < vertices g
+pub row_in_range : (g : RawGraph) → IsLawful g → (u w : ℕ) → has (row g u) w ≡ true → w < vertices g
 row_in_range g lawful u w h =
     All-contains (λ x. x < vertices g) (row g u) w
     (All-take (λ x. x < vertices g) (row_end g u - row_start g u) (drop (row_start g u) g.targets) (All-drop (λ x. x < vertices g) (row_start g u) g.targets lawful.targets))

@@ -1,6 +1,6 @@
 -- Least distances with their hops and parents fail no reason.
-use Rattle.std.proofs.Common.{◌≡◌, ◌≢◌, ℕ, zero, suc, ◌+◌, ◌<◌, ◌≤◌, Bool, true, false, not, ◌&&◌, eqb, ltb, List, [], ◌∷◌, ◌++◌, length, get_or, None, sym, ◌∙◌, subst, refl, ap, arith, inl, inr, length-append}
-use Rattle.std.specs.List.{list_any, find}
+use Rattle.std.proofs.Common.{◌≡◌, ◌≢◌, ℕ, ◌+◌, ◌<◌, ◌≤◌, Bool, true, false, not, ◌&&◌, eqb, ltb, List, [], ◌∷◌, ◌++◌, length, get_or, sym, ◌∙◌, subst, refl, ap, arith, inl, inr, length-append}
+use Rattle.std.specs.List.{list_any}
 use Rattle.std.proofs.lemmas.Bool.{cases_eq, lt-ltb, le-ltb, eq-eqb, ne_eqb, and_from, and_left, and_right}
 use Rattle.jul_base.specs.declared.graphs.RawGraph.{RawGraph}
 use Rattle.jul_base.specs.declared.limits.TheConstants.{NONE}
@@ -15,9 +15,9 @@ use Rattle.jul_base.proofs.DistanceLaws.{IsDistance-unique}
 use Rattle.jul_check.specs.declared.verdicts.Reason.{Reason}
 use Rattle.jul_check.specs.declared.verdicts.Reason.TheVariants as reasons
 use Rattle.jul_check.specs.declared.verdicts.Verdict.TheVariants.{Yes}
-use Rattle.jul_check.specs.Verdicts.{is_none, verdict_by, verdict_from}
+use Rattle.jul_check.specs.Verdicts.{is_none}
 use Rattle.jul_check.specs.DistanceChecks.{distance_reasons, fails_distances, distances_verdict, places_of, is_lowered, is_lowerable, is_tight, is_parent, has_parent}
-use Rattle.jul_check.proofs.VerdictLaws.{verdict_from-zero, verdict_from-passes, verdict_from-end}
+use Rattle.jul_check.proofs.VerdictLaws.{all_yes, find_past}
 use Rattle.jul_check.proofs.PlaceLaws.{passes_at, passes_nowhere}
 use Rattle.jul_check.proofs.DistanceCheckLaws.{is_some_number}
 use Rattle.jul_check.proofs.LoweringLaws.{is_lowered-not}
@@ -237,22 +237,6 @@ unreached_passes g source d t v lt =
       ]
 
 -- ---- the verdict
-
-find_past : (f : Reason → Bool) (r : Reason) (rs : List Reason) → f r ≡ false → find f rs ≡ None → find f (r ∷ rs) ≡ None
-find_past f r rs h none = grind arith
-
-yes_onwards : (n : ℕ) (order : List Reason) (fails : ℕ → Reason → Bool) → ((v : ℕ) → v < n → find (fails v) order ≡ None) → (k v : ℕ) → v + k ≡ n → verdict_from n order fails v ≡ Yes
-yes_onwards n order fails all zero v e = verdict_from-end n order fails v (omega arith)
-yes_onwards n order fails all (suc k) v e =
-    let lt : v < n = omega arith in
-    let next : v + 1 + k ≡ n = omega arith in
-    verdict_from-passes n order fails v lt (all v lt) ∙ yes_onwards n order fails all k (v + 1) next
-
--- where no vertex fails a reason, the verdict is yes
-pub all_yes : (n : ℕ) (order : List Reason) (fails : ℕ → Reason → Bool) → ((v : ℕ) → v < n → find (fails v) order ≡ None) → verdict_by n order fails ≡ Yes
-all_yes n order fails all =
-    let whole : 0 + n ≡ n = omega arith in
-    sym (verdict_from-zero n order fails) ∙ yes_onwards n order fails all n 0 whole
 
 pub tree_accepted : (g : RawGraph) (source : ℕ) (d : Distances) → IsLawful g → source < vertices g → AreTree g source d.dist d.hops d.parent → distances_verdict g source d ≡ Yes
 tree_accepted g source d lawful start tree =

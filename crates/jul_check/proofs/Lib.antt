@@ -3,6 +3,7 @@ pub mod TestLaws
 pub mod MarkLaws
 pub mod CoreOrderLaws
 pub mod CoreCheckLaws
+pub mod CoreAcceptLaws
 pub mod CoverMarkLaws
 pub mod CoverCheckLaws
 pub mod PlaceLaws

@@ -1,5 +1,5 @@
 -- What a verdict says of each vertex, and how it is found by one pass over the vertices.
-use Rattle.std.proofs.Common.{◌≡◌, ℕ, zero, suc, ◌+◌, ◌-◌, ◌<◌, ◌≤◌, Bool, false, List, [], ◌∷◌, Option, Some, None, ◌∙◌, ap, refl, arith, inl, inr}
+use Rattle.std.proofs.Common.{◌≡◌, ℕ, zero, suc, ◌+◌, ◌-◌, ◌<◌, ◌≤◌, Bool, false, List, [], ◌∷◌, Option, Some, None, sym, ◌∙◌, ap, refl, arith, inl, inr}
 use Rattle.std.specs.List.{filter_map, find, range_with_len, cons_option}
 use Rattle.std.proofs.lemmas.Bool.{cases_eq}
 use Rattle.jul_check.specs.declared.verdicts.Reason.{Reason}
@@ -66,3 +66,22 @@ yes_all n order fails e v lt = yes_from order fails n 0 e v (omega arith) (omega
 -- what is found nowhere fails at the first and at the rest
 pub find_none : (p : Reason → Bool) (x : Reason) (xs : List Reason) → find p (x ∷ xs) ≡ None → (p x ≡ false) × (find p xs ≡ None)
 find_none p x xs e = grind arith
+
+-- ---- where no vertex fails a reason
+
+-- a reason that isn't failed is passed over
+pub find_past : (f : Reason → Bool) (r : Reason) (rs : List Reason) → f r ≡ false → find f rs ≡ None → find f (r ∷ rs) ≡ None
+find_past f r rs h none = grind arith
+
+yes_onwards : (n : ℕ) (order : List Reason) (fails : ℕ → Reason → Bool) → ((v : ℕ) → v < n → find (fails v) order ≡ None) → (k v : ℕ) → v + k ≡ n → verdict_from n order fails v ≡ Yes
+yes_onwards n order fails all zero v e = verdict_from-end n order fails v (omega arith)
+yes_onwards n order fails all (suc k) v e =
+    let lt : v < n = omega arith in
+    let next : v + 1 + k ≡ n = omega arith in
+    verdict_from-passes n order fails v lt (all v lt) ∙ yes_onwards n order fails all k (v + 1) next
+
+-- where no vertex fails a reason, the verdict is yes
+pub all_yes : (n : ℕ) (order : List Reason) (fails : ℕ → Reason → Bool) → ((v : ℕ) → v < n → find (fails v) order ≡ None) → verdict_by n order fails ≡ Yes
+all_yes n order fails all =
+    let whole : 0 + n ≡ n = omega arith in
+    sym (verdict_from-zero n order fails) ∙ yes_onwards n order fails all n 0 whole

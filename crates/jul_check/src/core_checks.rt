@@ -3,8 +3,10 @@
 //! Two bounds on each vertex by one pass over its row, and an order of all vertices: with the bounds, no list that holds
 //! a vertex can have more places into it than the vertex's core.
 ghost use Rattle.std.specs.Prelude.{◌≡◌, ℕ, ◌<◌, length, slice_index, find, All, IfOk};
+ghost use Rattle.jul_base.specs.Numbers.{IsColumn};
 ghost use Rattle.jul_base.specs.Graph.{vertices};
 ghost use Rattle.jul_base.specs.Coreness.{IsCoreness};
+ghost use Rattle.jul_base.specs.Levels.{IsLevel};
 ghost use Rattle.jul_check.specs.CoreChecks.{at_least, not_before};
 ghost use Rattle.jul_check.specs.CoreChecks.{fails_cores, core_reasons, cores_verdict};
 ghost use Rattle.jul_check.specs.declared.verdicts.Verdict.TheVariants.{Yes};
@@ -25,7 +27,8 @@ struct RowTally {
 
 /// Whether the columns are cores of the graph, or the least vertex that shows they are not.
 ///
-/// A yes implies that each number of `core` is the coreness of its vertex. Memory that runs out is the only refusal.
+/// A yes implies that each number of `core` is the coreness of its vertex. Corenesses with the rounds of peeling as
+/// levels are accepted. Memory that runs out is the only refusal.
 /// Takes memory for a pair and a mark a vertex.
 pub fn check_cores(alloc: Global, rows: &Rows, c: &Cores) -> Result<Verdict, AllocError>
     requires core { length c.now.core ≡ vertices rows.now }
@@ -34,6 +37,9 @@ pub fn check_cores(alloc: Global, rows: &Rows, c: &Cores) -> Result<Verdict, All
     ensures verdict { IfOk result (λ verdict. verdict ≡ cores_verdict rows.now c.now) }
     ensures sound { IfOk result (λ verdict. verdict ≡ Yes → (v : ℕ) → v < vertices rows.now →
         IsCoreness rows.now v (slice_index c.now.core v)) }
+    ensures accepts { IfOk result (λ verdict.
+        IsColumn (vertices rows.now) (IsCoreness rows.now) c.now.core →
+        IsColumn (vertices rows.now) (IsLevel rows.now) c.now.level → verdict ≡ Yes) }
 {
     let outranked = mark_outranked(alloc, c, rows.n())?;
     for v in 0..rows.n() {

@@ -5,6 +5,7 @@ use Rattle.jul_check.specs.declared.verdicts.Verdict.TheVariants.{Yes}
 use Rattle.jul_check.specs.CoreChecks.{fails_cores, core_reasons, cores_verdict}
 use Rattle.jul_check.proofs.VerdictLaws.{verdict_from-passes, verdict_from-fails, verdict_from-end}
 use Rattle.jul_check.proofs.CoreCheckLaws.{cores_accepted}
+use Rattle.jul_check.proofs.CoreAcceptLaws.{peeled_accepted}
 use Rattle.jul_check.proofs.core_checks.check_cores.Goals as goal
 
 pub returns-in-Some-clause-verdict : goal.returns-in-Some-clause-verdict
@@ -26,3 +27,7 @@ returns-clause-sound c = λ _ v lt.
     let accepted : cores_verdict c.args.rows.now c.args.c.now ≡ Yes =
     sym c.loop-v.invariant ∙ verdict_from-end n core_reasons (fails_cores c.args.rows.now c.args.c.now) c.loop-v.v end in
     cores_accepted c.args.rows.now c.n.ensures.lawful c.args.c.now accepted v lt
+
+pub returns-in-Some-clause-accepts : goal.returns-in-Some-clause-accepts
+returns-in-Some-clause-accepts c = λ cores levels.
+    returns-in-Some-clause-verdict c ∙ peeled_accepted c.args.rows.now c.n.ensures.lawful c.args.c.now cores levels
