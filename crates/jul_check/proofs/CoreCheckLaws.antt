@@ -1,5 +1,5 @@
 -- What the checker's yes on cores implies.
-use Rattle.std.proofs.Common.{◌≡◌, ◌≢◌, ◌⊎◌, ℕ, ◌-◌, ◌<◌, ◌≤◌, Bool, true, false, not, ◌&&◌, eqb, ltb, leb, cond, List, [], ◌∷◌, drop, None, sym, ◌∙◌, subst, refl, ap, arith, inl, inr}
+use Rattle.std.proofs.Common.{◌≡◌, ◌⊎◌, ℕ, ◌-◌, ◌<◌, ◌≤◌, Bool, true, false, not, ◌&&◌, eqb, ltb, leb, cond, List, [], ◌∷◌, drop, None, sym, ◌∙◌, subst, refl, ap, arith, inl, inr}
 use Rattle.std.specs.List.{filter, find, count_by}
 use Rattle.std.proofs.lemmas.Bool.{cases_eq, cases_lt, cases_Bool, eqb-true, eq-eqb, lt-ltb, ltb-false, leb-true, le-leb, and_from, or_cases, or_left, or_right, not_from_false, both_ways}
 use Rattle.std.proofs.lemmas.Bool.Decides.{nat_tests}
@@ -16,7 +16,7 @@ use Rattle.jul_base.specs.Numbers.{below}
 use Rattle.jul_base.specs.Graph.{vertices, row, row_start, row_end, IsLawful}
 use Rattle.jul_base.specs.Coreness.{inner_degree, IsCore, IsCoreness}
 use Rattle.jul_base.specs.Sets.{has}
-use Rattle.jul_check.specs.CoreChecks.{core_of, is_before, at_least, not_before, is_outranked, core_reasons, fails_cores, cores_verdict}
+use Rattle.jul_check.specs.CoreChecks.{core_of, is_before, at_least, not_before, core_reasons, fails_cores, cores_verdict}
 use Rattle.jul_check.proofs.VerdictLaws.{yes_all, find_none}
 use Rattle.jul_check.proofs.CoreOrderLaws.{before_other}
 use Rattle.jul_base.proofs.PeelLaws.{has_filter, has_kept, has_below, below_from_has, has-from_Contains, Contains-from_has, All-from_has}

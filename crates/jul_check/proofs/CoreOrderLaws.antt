@@ -1,20 +1,22 @@
 -- The order by level: who stands before a vertex of the sorted list, and how far the greatest core is known.
-use Rattle.std.proofs.Common.{◌≡◌, ◌≢◌, ℕ, ◌+◌, ◌<◌, ◌≤◌, max, Bool, true, false, not, ◌&&◌, ◌||◌, eqb, ltb, cond, List, [], ◌∷◌, map, take, length, get_or, set, sym, ◌∙◌, subst, refl, ap, arith, inl, inr}
-use Rattle.std.specs.List.{list_any, All, Any, Contains}
+use Rattle.std.proofs.Common.{◌≡◌, ◌≢◌, ℕ, ◌+◌, ◌<◌, ◌≤◌, max, Bool, true, false, ◌&&◌, ◌||◌, eqb, ltb, cond, List, [], ◌∷◌, ◌++◌, map, take, length, get_or, set, sym, ◌∙◌, subst, refl, ap, arith, inl, inr}
+use Rattle.std.specs.List.{list_any, All}
 use Rattle.std.specs.List.Sorted.{IsPermutation, IsSorted}
 use Rattle.std.specs.Cmp.{IsStrictWeakOrder}
 use Rattle.std.proofs.Common.{Ordering, Less, Equal, Greater}
 use Rattle.std.specs.Ordering.{is_lt, nat_cmp, ordering_then}
-use Rattle.std.proofs.lemmas.Bool.{cases_Bool, cases_eq, cases_lt, both_ways, and_parts, and_from, ltb-true, le-ltb}
+use Rattle.std.proofs.lemmas.Bool.{cases_eq, cases_lt, both_ways, and_parts, and_from, ltb-true, le-ltb}
 use Rattle.std.proofs.lemmas.Bool.Decides.{nat_tests}
 use Rattle.std.proofs.lemmas.List.{get_or-take, get_or_default, get_or-set_same, get_or-set_other, length-set, length-take-le}
 use Rattle.std.proofs.lemmas.List.Sorted.{sorted_far, All-permutation, Contains-permutation, list_any-IsPermutation}
 use Rattle.std.proofs.lemmas.List.Folds.{list_any_at, list_any_more, Any-from_list_any}
-use Rattle.std.proofs.lemmas.List.FromFn.{length-map-range_with_len, get_or-map-range_with_len}
+use Rattle.std.proofs.lemmas.List.FromFn.{length-map-range_with_len, get_or-map-range_with_len, map-range_with_len_more}
 use Rattle.jul_base.specs.declared.results.Cores.{Cores}
 use Rattle.jul_base.specs.Numbers.{below}
 use Rattle.jul_check.specs.CoreChecks.{core_of, level_of, is_before, is_outranked}
-use Rattle.jul_check.specs.CoreOrder.{leveled, IsByLevel, MarksOutranked}
+use Rattle.jul_check.specs.CoreOrder.{leveled, IsByLevel}
+use Rattle.jul_check.specs.Marks.{AreMarks}
+use Rattle.jul_check.proofs.TestLaws.{same_test, list_any-map}
 
 -- ---- pairs in order
 
@@ -81,6 +83,15 @@ IsByLevel-from_sort c n order moved up = record {
       rw (sym here.level, sym there.level) far;
 }
 
+-- one more vertex behind its level
+pub leveled_more : (c : Cores) (v level : ℕ) (before after : List (ℕ × ℕ)) → after ≡ before ++ (level, v) ∷ [] → level ≡ level_of c v →
+    before ≡ map (leveled c) (below v) → after ≡ map (leveled c) (below (v + 1))
+leveled_more c v level before after pushed is so_far =
+    pushed
+    ∙ ap (λ l. before ++ (l, v) ∷ []) is
+    ∙ ap (λ ps. ps ++ leveled c v ∷ []) so_far
+    ∙ sym (map-range_with_len_more (leveled c) 0 v v (omega arith))
+
 -- every vertex stands somewhere in the list
 pub place_in_order : (c : Cores) (n : ℕ) (order : List (ℕ × ℕ)) → IsByLevel c n order → (v : ℕ) → v < n →
     (j : ℕ) × (j < length order) × (get_or order j (leveled c v) ≡ leveled c v)
@@ -98,16 +109,6 @@ before_other c u v ne h = grind (arith, nat_tests)
 
 outranks : Cores → ℕ → ℕ × ℕ → Bool
 outranks c v p = is_before c p.1 v && ltb (core_of c v) (core_of c p.1)
-
-list_any-map : {A B : Type 0} (p : B → Bool) (f : A → B) (xs : List A) → list_any p (map f xs) ≡ list_any (λ x. p (f x)) xs
-list_any-map p f [] = refl
-list_any-map p f (x ∷ xs) = ap (λ b. p (f x) || b) (list_any-map p f xs)
-
--- two tests that hold where the other does are one
-same_test : (a b : Bool) → (a ≡ true → b ≡ true) → (b ≡ true → a ≡ true) → a ≡ b
-same_test true b there back = sym (there refl)
-same_test false true there back = back refl
-same_test false false there back = refl
 
 -- the number of an entry that passes, at any default
 any_place : (test : ℕ × ℕ → Bool) (xs : List (ℕ × ℕ)) (d : ℕ × ℕ) → list_any test xs ≡ true → (k : ℕ) × (k < length xs) × (test (get_or xs k d) ≡ true)
@@ -219,9 +220,9 @@ MarksSoFar-more c n order by i marks greatest before lt v core at is =
     }
 
 -- at the end every vertex has its mark
-pub MarksOutranked-from_all : (c : Cores) (n : ℕ) (order : List (ℕ × ℕ)) → IsByLevel c n order → (i : ℕ) (marks : List Bool) (greatest : ℕ) →
-    MarksSoFar c n order i marks greatest → length order ≤ i → MarksOutranked c n marks
-MarksOutranked-from_all c n order by i marks greatest done end = record {
+pub AreMarks-from_all : (c : Cores) (n : ℕ) (order : List (ℕ × ℕ)) → IsByLevel c n order → (i : ℕ) (marks : List Bool) (greatest : ℕ) →
+    MarksSoFar c n order i marks greatest → length order ≤ i → AreMarks n (is_outranked c n) marks
+AreMarks-from_all c n order by i marks greatest done end = record {
   size = done.size;
   each = λ v lt.
       let (j, j_lt, at) = place_in_order c n order by v lt in

@@ -1,7 +1,7 @@
 -- A yes on a cover: the chosen sets hold every element.
-use Rattle.std.proofs.Common.{◌≡◌, ◌≢◌, ℕ, ◌<◌, ◌≤◌, Bool, true, false, not, ◌&&◌, ◌||◌, eqb, ltb, List, [], ◌∷◌, get_or, None, sym, ◌∙◌, ap, subst, refl, arith, inl, inr}
-use Rattle.std.specs.List.{find, list_any, Contains}
-use Rattle.std.proofs.lemmas.Bool.{cases_Bool, cases_lt, both_ways, eq-eqb, lt-ltb, le-ltb, and_from, or_left, or_right}
+use Rattle.std.proofs.Common.{◌≡◌, ◌≢◌, ℕ, ◌<◌, Bool, true, false, not, ◌&&◌, ltb, [], ◌∷◌, get_or, None, sym, ◌∙◌, ap, arith}
+use Rattle.std.specs.List.{find, Contains}
+use Rattle.std.proofs.lemmas.Bool.{both_ways, eq-eqb, ltb-true, not-false, or_parts}
 use Rattle.std.proofs.lemmas.List.Folds.{list_any_at}
 use Rattle.std.proofs.lemmas.List.FromFn.{length-range_with_len, get_or-range_with_len}
 use Rattle.jul_base.specs.declared.graphs.RawGraph.{RawGraph}
@@ -23,25 +23,14 @@ is_element-from_IsElement g e (s, lt, held) =
     let in_set : ℕ → Bool = λ r. has (set_of g r) e in
     let here : get_or (below (vertices g)) s 0 ≡ s = get_or-range_with_len 0 (vertices g) s 0 lt ∙ omega arith in
     list_any_at in_set (below (vertices g)) s 0 (omega (arith, length-range_with_len 0 (vertices g)))
-        (ap in_set here ∙ has-from_Contains (set_of g s) e held)
+    (ap in_set here ∙ has-from_Contains (set_of g s) e held)
 
 -- a test under another that holds
 and_false : (a b : Bool) → a ≡ true → (a && b) ≡ false → b ≡ false
 and_false a b is none = sym (ap (λ t. t && b) is) ∙ none
 
-not_false : (b : Bool) → not b ≡ false → b ≡ true
-not_false true e = refl
-not_false false e = sym e
-
-or_false_parts : (a b : Bool) → (a || b) ≡ false → (a ≡ false) × (b ≡ false)
-or_false_parts true b e = absurd (cc)
-or_false_parts false b e = (refl, e)
-
 is_some_number : (x : ℕ) → is_none x ≡ false → x ≢ NONE
 is_some_number x fails e = both_ways _ fails (eq-eqb x NONE e)
-
-lt_from_test : (a b : ℕ) → ltb a b ≡ true → a < b
-lt_from_test a b h = elim (cases_lt a b) [ inl lt ↦ lt | inr le ↦ absurd (both_ways _ (le-ltb a b le) h) ]
 
 pub cover_accepted : (g : RawGraph) (c : Cover) → cover_verdict g c ≡ Yes → HoldsEveryElement g c.round
 cover_accepted g c accepted e element =
@@ -53,7 +42,7 @@ cover_accepted g c accepted e element =
     let b : (f reasons.NotHeld ≡ false) × (find f (reasons.NotChosen ∷ reasons.NoElement ∷ []) ≡ None) =
     find_none f reasons.NotHeld (reasons.NotChosen ∷ reasons.NoElement ∷ []) a.1 in
     let d : f reasons.NotChosen ≡ false = (find_none f reasons.NotChosen (reasons.NoElement ∷ []) b.1).0 in
-    let covered : (is_none (by_of c e) ≡ false) × (not (ltb (by_of c e) (vertices g)) ≡ false) = or_false_parts _ _ (and_false _ _ is a.0) in
-    let in_range : by_of c e < vertices g = lt_from_test _ _ (not_false _ covered.1) in
-    let held : Contains (set_of g (by_of c e)) e = Contains-from_has _ e (not_false _ (and_false _ _ is b.0)) in
+    let covered : (is_none (by_of c e) ≡ false) × (not (ltb (by_of c e) (vertices g)) ≡ false) = or_parts _ _ (and_false _ _ is a.0) in
+    let in_range : by_of c e < vertices g = ltb-true _ _ (not-false _ covered.1) in
+    let held : Contains (set_of g (by_of c e)) e = Contains-from_has _ e (not-false _ (and_false _ _ is b.0)) in
     (by_of c e, in_range, held, is_some_number _ (and_false _ _ is d))

@@ -1,4 +1,6 @@
 pub mod VerdictLaws
+pub mod TestLaws
+pub mod MarkLaws
 pub mod CoreOrderLaws
 pub mod CoreCheckLaws
 pub mod CoverMarkLaws

@@ -1,5 +1,5 @@
 -- What a place, and a row, adds to the marks.
-use Rattle.std.proofs.Common.{◌≡◌, ◌≢◌, ℕ, ◌+◌, ◌<◌, Bool, true, false, not, ◌&&◌, ◌||◌, eqb, ltb, List, [], ◌∷◌, get_or, set, sym, ◌∙◌, ap, arith, inl, inr, length-set, get_or-set_same, get_or-set_other}
+use Rattle.std.proofs.Common.{◌≡◌, ◌≢◌, ℕ, ◌+◌, ◌<◌, Bool, true, false, not, ◌&&◌, ◌||◌, eqb, ltb, List, [], ◌∷◌, get_or, set, sym, ◌∙◌, ap, arith, inl, inr}
 use Rattle.std.specs.List.{list_any}
 use Rattle.std.proofs.lemmas.Bool.{cases_eq, lt-ltb, eq-eqb, ne_eqb, and_from, and_left, and_right, not_from_false}
 use Rattle.std.proofs.lemmas.Bool.Decides.{nat_tests}
@@ -9,23 +9,10 @@ use Rattle.jul_base.specs.declared.limits.TheConstants.{NONE}
 use Rattle.jul_base.specs.Graph.{vertices, row_start, row_end, target, weight}
 use Rattle.jul_check.specs.Verdicts.{is_none}
 use Rattle.jul_check.specs.DistanceChecks.{places_of, is_tight, is_parent}
-use Rattle.jul_check.specs.TreeMarks.{parent_of, has_numbers, is_borne, is_marked, is_marked_in_row, AreMarks}
+use Rattle.jul_check.specs.Marks.{AreMarks}
+use Rattle.jul_check.specs.TreeMarks.{parent_of, has_numbers, is_borne, is_marked, is_marked_in_row}
+use Rattle.jul_check.proofs.MarkLaws.{AreMarks-kept, AreMarks-set}
 use Rattle.jul_check.proofs.PlaceLaws.{list_any-range_with_len_more, list_any-places_of}
-
--- ---- marks
-
-pub AreMarks-kept : (n : ℕ) (test now : ℕ → Bool) (marks : List Bool) → AreMarks n test marks → ((v : ℕ) → v < n → now v ≡ test v) → AreMarks n now marks
-AreMarks-kept n test now marks are same = record { size = are.size; each = λ v lt. are.each v lt ∙ sym (same v lt) }
-
-pub AreMarks-set : (n t : ℕ) (test now : ℕ → Bool) (marks : List Bool) → t < n → AreMarks n test marks → now t ≡ true → ((v : ℕ) → v ≢ t → now v ≡ test v) →
-    AreMarks n now (set marks t true)
-AreMarks-set n t test now marks lt are here others = record {
-  size = length-set marks t true ∙ are.size;
-  each = λ v v_lt. elim (cases_eq v t) [
-    | inl e ↦ ap (λ k. get_or (set marks t true) k false) e ∙ get_or-set_same marks t true false (omega (arith, are.size)) ∙ sym (ap now e ∙ here)
-    | inr ne ↦ get_or-set_other marks t v true false ne ∙ are.each v v_lt ∙ sym (others v ne)
-  ];
-}
 
 -- ---- one place more
 

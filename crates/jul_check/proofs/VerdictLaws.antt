@@ -1,5 +1,5 @@
 -- What a verdict says of each vertex, and how it is found by one pass over the vertices.
-use Rattle.std.proofs.Common.{◌≡◌, ℕ, zero, suc, ◌+◌, ◌-◌, ◌<◌, ◌≤◌, Bool, false, List, [], ◌∷◌, Option, Some, None, sym, ◌∙◌, ap, refl, arith, inl, inr}
+use Rattle.std.proofs.Common.{◌≡◌, ℕ, zero, suc, ◌+◌, ◌-◌, ◌<◌, ◌≤◌, Bool, false, List, [], ◌∷◌, Option, Some, None, ◌∙◌, ap, refl, arith, inl, inr}
 use Rattle.std.specs.List.{filter_map, find, range_with_len, cons_option}
 use Rattle.std.proofs.lemmas.Bool.{cases_eq}
 use Rattle.jul_check.specs.declared.verdicts.Reason.{Reason}

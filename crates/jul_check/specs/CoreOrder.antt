@@ -1,10 +1,10 @@
--- The vertices in the order of their levels, and which of them have a vertex of greater core before them.
-use Rattle.std.specs.Prelude.{◌≡◌, ℕ, ◌<◌, ◌≤◌, Bool, false, List, length, map}
+-- The vertices in the order of their levels.
+use Rattle.std.specs.Prelude.{◌≡◌, ℕ, ◌<◌, ◌≤◌, false, List, length, map}
 use Rattle.std.specs.List.{slice_index_or}
 use Rattle.std.specs.List.Sorted.{IsPermutation}
 use Rattle.jul_base.specs.declared.results.Cores.{Cores}
 use Rattle.jul_base.specs.Numbers.{below}
-use Rattle.jul_check.specs.CoreChecks.{level_of, is_before, is_outranked}
+use Rattle.jul_check.specs.CoreChecks.{level_of, is_before}
 
 -- a vertex behind its level
 abbrev pub leveled : Cores → ℕ → ℕ × ℕ
@@ -15,8 +15,3 @@ pub record IsByLevel (c : Cores) (n : ℕ) (order : List (ℕ × ℕ)) : Type 0 
   pub permutation : IsPermutation (map (leveled c) (below n)) order
   pub sorted : (i j : ℕ) (d : ℕ × ℕ) → i ≤ j → j < length order →
       is_before c (slice_index_or order j d).1 (slice_index_or order i d).1 ≡ false
-
--- a mark for each vertex below n, set where it is outranked
-pub record MarksOutranked (c : Cores) (n : ℕ) (marks : List Bool) : Type 0 where
-  pub size : length marks ≡ n
-  pub each : (v : ℕ) → v < n → slice_index_or marks v false ≡ is_outranked c n v

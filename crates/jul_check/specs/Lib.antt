@@ -1,4 +1,5 @@
 pub mod Verdicts
+pub mod Marks
 pub mod CoreChecks
 pub mod DistanceChecks
 pub mod TreeMarks

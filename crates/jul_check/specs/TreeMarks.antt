@@ -1,6 +1,6 @@
 -- Marks on the vertices whose parents bear them out, as far as the rows were read.
-use Rattle.std.specs.Prelude.{◌≡◌, ℕ, ◌+◌, ◌<◌, Bool, false, not, ◌&&◌, List, length, slice_index, nat_lt, ◌==◌}
-use Rattle.std.specs.List.{list_any, range_with_len, slice_index_or}
+use Rattle.std.specs.Prelude.{ℕ, ◌+◌, Bool, not, ◌&&◌, slice_index, nat_lt, ◌==◌}
+use Rattle.std.specs.List.{list_any, range_with_len}
 use Rattle.jul_base.specs.declared.graphs.RawGraph.{RawGraph}
 use Rattle.jul_base.specs.declared.results.Distances.{Distances}
 use Rattle.jul_base.specs.Graph.{row_start, target, weight}
@@ -27,8 +27,3 @@ is_marked g d u v = nat_lt (parent_of d v) u && is_parent g d v (parent_of d v)
 abbrev pub is_marked_in_row : RawGraph → Distances → ℕ → ℕ → ℕ → Bool
 is_marked_in_row g d u k v =
     list_any (λ p. (target g p == v) && is_borne d u v (weight g p)) (range_with_len (row_start g u) k)
-
--- a mark for each vertex, set where the test holds
-pub record AreMarks (n : ℕ) (test : ℕ → Bool) (marks : List Bool) : Type 0 where
-  pub size : length marks ≡ n
-  pub each : (v : ℕ) → v < n → slice_index_or marks v false ≡ test v

@@ -97,3 +97,6 @@ fn tally(c: &Cores, row: &[u32], v: u32) -> RowTally
         not_before,
     }
 }
+
+#[cfg(test)]
+mod tests;

@@ -1,8 +1,10 @@
 //! Which vertices have a vertex of greater core before them, by one sort.
 //!
 //! The vertices are sorted by level and then id. One pass in that order keeps the greatest core so far.
-ghost use Rattle.std.specs.Prelude.{◌≡◌, ℕ, ◌<◌, ◌≤◌, ◌^◌, length, All, IfOk};
-ghost use Rattle.jul_check.specs.CoreOrder.{IsByLevel, MarksOutranked};
+ghost use Rattle.std.specs.Prelude.{◌≡◌, length, IfOk};
+ghost use Rattle.jul_check.specs.CoreChecks.{is_outranked};
+ghost use Rattle.jul_check.specs.CoreOrder.{IsByLevel};
+ghost use Rattle.jul_check.specs.Marks.{AreMarks};
 
 use jul_base::Cores;
 use std::alloc::{AllocError, Global};
@@ -10,11 +12,11 @@ use std::alloc::{AllocError, Global};
 /// A mark for each of `n` vertices, set where some vertex before it has a greater core.
 ///
 /// Takes memory for a pair and a mark a vertex.
-pub fn mark_outranked(alloc: Global, c: &Cores, n: u32) -> Result<Vec<bool>, AllocError>
+pub(crate) fn mark_outranked(alloc: Global, c: &Cores, n: u32) -> Result<Vec<bool>, AllocError>
     requires core { length c.now.core ≡ n }
     requires level { length c.now.level ≡ n }
 
-    ensures marks { IfOk result (λ marks. MarksOutranked c.now n marks.items) }
+    ensures marks { IfOk result (λ marks. AreMarks n (is_outranked c.now n) marks.items) }
 {
     let order = by_level(alloc, c, n)?;
     mark_in_order(alloc, c, order.as_slice(), n)
@@ -44,7 +46,7 @@ fn mark_in_order(
     requires core { length c.now.core ≡ n }
     requires order { IsByLevel c.now n order.now }
 
-    ensures marks { IfOk result (λ marks. MarksOutranked c.now n marks.items) }
+    ensures marks { IfOk result (λ marks. AreMarks n (is_outranked c.now n) marks.items) }
 {
     let mut marks = vec![in alloc; false; n as usize]?;
     let mut greatest = 0;

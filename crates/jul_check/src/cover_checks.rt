@@ -59,3 +59,6 @@ fn first_reason(rows: &Rows, c: &Cover, v: u32, element: bool, held: bool) -> Op
         None
     }
 }
+
+#[cfg(test)]
+mod tests;

@@ -1,9 +1,9 @@
 //! What the rows say of each vertex, where a cover is checked: one pass over all places.
-ghost use Rattle.std.specs.Prelude.{◌≡◌, ℕ, ◌<◌, ◌+◌, false, [], ◌++◌, ◌∷◌, length, All, IfOk};
-ghost use Rattle.std.specs.List.{slice_index_or};
-ghost use Rattle.jul_base.specs.Graph.{vertices, row};
+ghost use Rattle.std.specs.Prelude.{◌≡◌, ◌+◌, ◌<◌, [], length, IfOk};
+ghost use Rattle.jul_base.specs.Graph.{vertices};
 ghost use Rattle.jul_check.specs.CoverChecks.{is_element, is_in_its_set};
 ghost use Rattle.jul_check.specs.CoverMarks.{HasMarked};
+ghost use Rattle.jul_check.specs.Marks.{AreMarks};
 
 use jul_base::Cover;
 use jul_rows::Rows;
@@ -11,23 +11,21 @@ use std::alloc::{AllocError, Global};
 
 /// Two marks for each vertex.
 #[derive(Drop)]
-pub struct Marks {
+pub(crate) struct Marks {
     /// Whether the vertex stands in some set.
-    pub element: Vec<bool>,
+    pub(crate) element: Vec<bool>,
     /// Whether the vertex stands in the set that is said to cover it.
-    pub held: Vec<bool>,
+    pub(crate) held: Vec<bool>,
 }
 
 /// The marks of all vertices. Takes memory for two marks a vertex.
-pub fn mark_all(alloc: Global, rows: &Rows, c: &Cover) -> Result<Marks, AllocError>
+pub(crate) fn mark_all(alloc: Global, rows: &Rows, c: &Cover) -> Result<Marks, AllocError>
     requires by { length c.now.by ≡ vertices rows.now }
 
-    ensures element_size { IfOk result (λ marks. length marks.element.items ≡ vertices rows.now) }
-    ensures held_size { IfOk result (λ marks. length marks.held.items ≡ vertices rows.now) }
-    ensures element { IfOk result (λ marks. (v : ℕ) → v < vertices rows.now →
-        slice_index_or marks.element.items v false ≡ is_element rows.now v) }
-    ensures held { IfOk result (λ marks. (v : ℕ) → v < vertices rows.now →
-        slice_index_or marks.held.items v false ≡ is_in_its_set rows.now c.now v) }
+    ensures element { IfOk result (λ marks.
+        AreMarks (vertices rows.now) (is_element rows.now) marks.element.items) }
+    ensures held { IfOk result (λ marks.
+        AreMarks (vertices rows.now) (is_in_its_set rows.now c.now) marks.held.items) }
 {
     let mut marks = begin(alloc, rows, c)?;
     for s in 0..rows.n() {

@@ -8,7 +8,8 @@ ghost use Rattle.jul_base.specs.Distances.{AreDistances};
 ghost use Rattle.jul_base.specs.Trees.{AreTree};
 ghost use Rattle.jul_check.specs.DistanceChecks.{is_lowerable, is_parent};
 ghost use Rattle.jul_check.specs.DistanceChecks.{fails_distances, distance_reasons, distances_verdict};
-ghost use Rattle.jul_check.specs.TreeMarks.{parent_of, AreMarks};
+ghost use Rattle.jul_check.specs.Marks.{AreMarks};
+ghost use Rattle.jul_check.specs.TreeMarks.{parent_of};
 ghost use Rattle.jul_check.specs.declared.verdicts.Verdict.TheVariants.{Yes};
 
 use crate::tree_marks::mark_tree;

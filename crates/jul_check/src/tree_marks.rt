@@ -5,7 +5,8 @@
 ghost use Rattle.std.specs.Prelude.{◌≡◌, ◌+◌, ◌<◌, ◌==◌, length, IfOk};
 ghost use Rattle.jul_base.specs.Graph.{vertices, IsLawful};
 ghost use Rattle.jul_check.specs.DistanceChecks.{is_parent};
-ghost use Rattle.jul_check.specs.TreeMarks.{parent_of, is_borne, is_marked, AreMarks};
+ghost use Rattle.jul_check.specs.Marks.{AreMarks};
+ghost use Rattle.jul_check.specs.TreeMarks.{parent_of, is_borne, is_marked};
 
 use jul_base::{Distances, NONE};
 use jul_rows::Rows;

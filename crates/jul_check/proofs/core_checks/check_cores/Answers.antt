@@ -1,5 +1,4 @@
-use Rattle.std.proofs.Common.{◌≡◌, ℕ, ◌≤◌, Option, Some, None, List, sym, ◌∙◌, arith}
-use Rattle.std.specs.List.{find}
+use Rattle.std.proofs.Common.{◌≡◌, ℕ, ◌≤◌, sym, ◌∙◌, arith}
 use Rattle.jul_base.specs.Graph.{vertices}
 use Rattle.jul_check.specs.declared.verdicts.Reason.{Reason}
 use Rattle.jul_check.specs.declared.verdicts.Verdict.TheVariants.{Yes}

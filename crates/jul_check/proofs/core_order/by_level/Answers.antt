@@ -1,18 +1,13 @@
-use Rattle.std.proofs.Common.{◌≡◌, ℕ, List, [], ◌∷◌, ◌++◌, map, sym, ◌∙◌, ap, subst, arith}
+use Rattle.std.proofs.Common.{◌≡◌, ℕ, List, map, ◌∙◌, ap, subst, arith}
 use Rattle.std.specs.List.Sorted.{IsPermutation}
-use Rattle.std.proofs.lemmas.List.FromFn.{map-range_with_len_more}
 use Rattle.jul_base.specs.Numbers.{below}
 use Rattle.jul_check.specs.CoreOrder.{leveled}
-use Rattle.jul_check.proofs.CoreOrderLaws.{IsByLevel-from_sort}
+use Rattle.jul_check.proofs.CoreOrderLaws.{IsByLevel-from_sort, leveled_more}
 use Rattle.jul_check.proofs.core_order.by_level.Goals as goal
 
 pub loop-v-preserved : goal.loop-v-preserved
 loop-v-preserved c =
-    let f : ℕ → ℕ × ℕ = leveled c.args.c.now in
-    c.in_ok-push.ensures.items
-    ∙ ap (λ (l : ℕ). c.loop-v.order.items ++ (l, c.loop-v.v) ∷ []) c.get.ensures
-    ∙ ap (λ (l : List (ℕ × ℕ)). l ++ f c.loop-v.v ∷ []) c.loop-v.invariant
-    ∙ sym (map-range_with_len_more f 0 c.loop-v.v c.loop-v.v (omega arith))
+    leveled_more c.args.c.now c.loop-v.v c.get.result c.loop-v.order.items c.push.new.self.items c.in_ok-push.ensures.items c.get.ensures c.loop-v.invariant
 
 pub returns : goal.returns
 returns c =

@@ -1,6 +1,5 @@
-use Rattle.std.proofs.Common.{ℕ, length, refl, arith}
-use Rattle.jul_check.specs.CoreOrder.{MarksOutranked}
-use Rattle.jul_check.proofs.CoreOrderLaws.{entry_at, MarksSoFar-none, MarksSoFar-more, MarksOutranked-from_all}
+use Rattle.std.proofs.Common.{refl, arith}
+use Rattle.jul_check.proofs.CoreOrderLaws.{entry_at, MarksSoFar-none, MarksSoFar-more, AreMarks-from_all}
 use Rattle.jul_check.proofs.core_order.mark_in_order.Goals as goal
 
 pub loop-v-init : goal.loop-v-init
@@ -26,5 +25,5 @@ loop-v-preserved c =
 
 pub returns : goal.returns
 returns c = record {
-  marks = MarksOutranked-from_all c.args.c.now c.args.n c.args.order.now c.requires.order c.loop-v.v-index c.loop-v.marks.items c.loop-v.greatest c.loop-v.invariant c.loop-v-test.false;
+  marks = AreMarks-from_all c.args.c.now c.args.n c.args.order.now c.requires.order c.loop-v.v-index c.loop-v.marks.items c.loop-v.greatest c.loop-v.invariant c.loop-v-test.false;
 }

@@ -2,7 +2,7 @@ use Rattle.std.proofs.Common.{◌≡◌, ℕ, ◌+◌, ◌<◌, List, take, leng
 use Rattle.jul_base.specs.Graph.{vertices, row}
 use Rattle.jul_check.specs.declared.cover_marks.Marks.{Marks}
 use Rattle.jul_check.specs.CoverMarks.{HasMarked}
-use Rattle.jul_check.proofs.CoverMarkLaws.{AreMarks-held, AreMarks-passed, AreMarks-next}
+use Rattle.jul_check.proofs.CoverMarkLaws.{AreCoverMarks-held, AreCoverMarks-passed, AreCoverMarks-next}
 use Rattle.jul_check.proofs.cover_marks.mark_row.Goals as goal
 use Rattle.jul_check.proofs.cover_marks.mark_row.Goals.{then-get-s, else-get-s}
 
@@ -15,15 +15,15 @@ loop-w-preserved c =
     let in_range : get_or c.row-w-items.result.now i 0 < vertices c.args.rows.now = c.row-w-items.ensures.vertex i c.loop-w-test.true in
     let P : Marks → Type 0 = HasMarked c.args.rows.now c.args.c.now c.args.s (take (i + 1) ws) in
     elim c.if-get-s.branch [
-      | then-get-s w ↦ subst P (sym w.marks-is) (AreMarks-held c.args.rows.now c.args.c.now c.args.s i c.loop-w.marks.element.items c.loop-w.marks.held.items
+      | then-get-s w ↦ subst P (sym w.marks-is) (AreCoverMarks-held c.args.rows.now c.args.c.now c.args.s i c.loop-w.marks.element.items c.loop-w.marks.held.items
           c.loop-w.invariant lt _ at in_range (sym c.get.ensures ∙ w.if-get-s.true))
-      | else-get-s w ↦ subst P (sym w.marks-is) (AreMarks-passed c.args.rows.now c.args.c.now c.args.s i c.loop-w.marks.element.items c.loop-w.marks.held.items
+      | else-get-s w ↦ subst P (sym w.marks-is) (AreCoverMarks-passed c.args.rows.now c.args.c.now c.args.s i c.loop-w.marks.element.items c.loop-w.marks.held.items
           c.loop-w.invariant lt _ at in_range (λ e. w.if-get-s.false (c.get.ensures ∙ e)))
     ]
 
 pub returns : goal.returns
 returns c = record {
   after =
-      AreMarks-next c.args.rows.now c.args.c.now c.args.s c.loop-w.w-index c.loop-w.marks.element.items c.loop-w.marks.held.items c.loop-w.invariant
+      AreCoverMarks-next c.args.rows.now c.args.c.now c.args.s c.loop-w.w-index c.loop-w.marks.element.items c.loop-w.marks.held.items c.loop-w.invariant
       (omega (arith, c.loop-w-test.false, ap length c.row-w-items.ensures.row)) c.requires.vertex;
 }

@@ -2,7 +2,7 @@ use Rattle.std.proofs.Common.{◌≡◌, ℕ, ◌+◌, ◌<◌, Bool, List, leng
 use Rattle.jul_base.specs.declared.graphs.RawGraph.{RawGraph}
 use Rattle.jul_base.specs.declared.results.Distances.{Distances}
 use Rattle.jul_base.specs.Graph.{vertices, row_start, row_end, target, weight}
-use Rattle.jul_check.specs.TreeMarks.{AreMarks}
+use Rattle.jul_check.specs.Marks.{AreMarks}
 use Rattle.jul_check.proofs.TreeMarkLaws.{marked_to, AreMarks-more, AreMarks-same, AreMarks-next, has_numbers-some}
 use Rattle.jul_check.proofs.tree_marks.mark_row.Goals as goal
 use Rattle.jul_check.proofs.tree_marks.mark_row.Goals.{then-is_borne, else-is_borne}

@@ -1,6 +1,7 @@
 use Rattle.std.proofs.Common.{◌≡◌, ◌+◌, ◌||◌}
 use Rattle.jul_base.specs.Graph.{vertices, row_start}
-use Rattle.jul_check.specs.TreeMarks.{is_marked, is_marked_in_row, AreMarks}
+use Rattle.jul_check.specs.Marks.{AreMarks}
+use Rattle.jul_check.specs.TreeMarks.{is_marked, is_marked_in_row}
 use Rattle.jul_check.proofs.tree_marks.mark_row.Given as goal
 
 abbrev pub invariant-loop-v : goal.invariant-loop-v

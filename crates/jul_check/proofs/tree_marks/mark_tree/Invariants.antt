@@ -1,5 +1,6 @@
 use Rattle.jul_base.specs.Graph.{vertices}
-use Rattle.jul_check.specs.TreeMarks.{is_marked, AreMarks}
+use Rattle.jul_check.specs.Marks.{AreMarks}
+use Rattle.jul_check.specs.TreeMarks.{is_marked}
 use Rattle.jul_check.proofs.tree_marks.mark_tree.Given as goal
 
 abbrev pub invariant-loop-u : goal.invariant-loop-u
