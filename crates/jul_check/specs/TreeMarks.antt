@@ -13,7 +13,7 @@ parent_of d v = slice_index d.parent v
 abbrev pub has_numbers : Distances → ℕ → Bool
 has_numbers d u = not (is_none (slice_index d.dist u)) && not (is_none (slice_index d.hops u))
 
--- u is named as the parent of v, its hops are one fewer, and w is what v's distance is more
+-- u is named as the parent of v, is one hop before it, and v's distance is w more
 abbrev pub is_borne : Distances → ℕ → ℕ → ℕ → Bool
 is_borne d u v w =
     (parent_of d v == u) && (slice_index d.dist u + w == slice_index d.dist v)

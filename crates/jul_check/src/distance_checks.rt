@@ -2,15 +2,14 @@
 //!
 //! One pass over the places marks the vertices whose parents bear them out, another over vertices and places finds the
 //! first vertex that fails. No sum is made, so that none wraps: numbers are compared by what one is more than the other.
-ghost use Rattle.std.specs.Prelude.{◌≡◌, ◌+◌, ◌<◌, Bool, false, length, slice_index, nat_lt, find, IfOk};
+ghost use Rattle.std.specs.Prelude.{◌≡◌, ◌+◌, ◌<◌, length, nat_lt, find, IfOk};
 ghost use Rattle.jul_base.specs.Graph.{vertices, IsLawful};
 ghost use Rattle.jul_base.specs.Distances.{AreDistances};
 ghost use Rattle.jul_base.specs.Trees.{AreTree};
-ghost use Rattle.jul_check.specs.DistanceChecks.{is_lowerable, is_parent, is_reached};
+ghost use Rattle.jul_check.specs.DistanceChecks.{is_lowerable, is_parent};
 ghost use Rattle.jul_check.specs.DistanceChecks.{fails_distances, distance_reasons, distances_verdict};
 ghost use Rattle.jul_check.specs.Marks.{AreMarks};
 ghost use Rattle.jul_check.specs.TreeMarks.{parent_of};
-ghost use Rattle.jul_check.specs.declared.verdicts.Reason.TheVariants as reasons;
 ghost use Rattle.jul_check.specs.declared.verdicts.Verdict.TheVariants.{Yes};
 
 use crate::tree_marks::mark_tree;

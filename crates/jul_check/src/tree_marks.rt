@@ -2,7 +2,7 @@
 //!
 //! The row of a parent may be long and its children many, so that no row is searched for each of them. One pass over all
 //! places in order marks the target of each place that comes from its parent and bears it out.
-ghost use Rattle.std.specs.Prelude.{◌≡◌, ◌+◌, ◌<◌, ◌||◌, ◌==◌, length, slice_index, IfOk};
+ghost use Rattle.std.specs.Prelude.{◌≡◌, ◌+◌, ◌<◌, ◌==◌, length, IfOk};
 ghost use Rattle.jul_base.specs.Graph.{vertices, IsLawful};
 ghost use Rattle.jul_check.specs.DistanceChecks.{is_parent};
 ghost use Rattle.jul_check.specs.Marks.{AreMarks};
