@@ -12,3 +12,4 @@ pub mod TreeMarkLaws
 pub mod DistanceCheckLaws
 pub mod DistanceAcceptLaws
 pub mod DistanceCheckRows
+pub mod CoreCoverRows

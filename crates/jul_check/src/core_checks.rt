@@ -1,7 +1,7 @@
 //! The check of cores.
 //!
-//! Two bounds on each vertex by one pass over its row, and an order of all vertices: with the bounds, no list that holds
-//! a vertex can have more places into it than the vertex's core.
+//! Two bounds on each vertex by one pass over its row, and an order of all vertices: with the bounds, no list
+//! that holds a vertex can have more places into it than the vertex's core.
 ghost use Rattle.std.specs.Prelude.{◌≡◌, ℕ, ◌<◌, length, slice_index, find, All, IfOk};
 ghost use Rattle.jul_base.specs.Numbers.{IsColumn};
 ghost use Rattle.jul_base.specs.Graph.{vertices};
@@ -27,9 +27,9 @@ struct RowTally {
 
 /// Whether the columns are cores of the graph, or the least vertex that shows they are not.
 ///
-/// A yes implies that each number of `core` is the coreness of its vertex. Corenesses with the rounds of peeling as
-/// levels are accepted. Memory that runs out is the only refusal.
-/// Takes memory for a pair and a mark a vertex.
+/// A yes implies that each number of `core` is the coreness of its vertex. Corenesses with the rounds of
+/// peeling as levels are accepted. Memory that runs out is the only refusal. Takes memory for a pair and a
+/// mark a vertex.
 pub fn check_cores(alloc: Global, rows: &Rows, c: &Cores) -> Result<Verdict, AllocError>
     requires core { length c.now.core ≡ vertices rows.now }
     requires level { length c.now.level ≡ vertices rows.now }

@@ -13,8 +13,8 @@ use std::alloc::{AllocError, Global};
 
 /// Whether the columns are a set cover of the graph, or the least vertex that shows they are not.
 ///
-/// A yes implies that every element is in a set that was chosen. It doesn't say that few were. Memory that runs out is the
-/// only refusal.
+/// A yes implies that every element is in a set that was chosen. It doesn't say that few were. Memory that
+/// runs out is the only refusal. Takes memory for two marks a vertex.
 pub fn check_cover(alloc: Global, rows: &Rows, c: &Cover) -> Result<Verdict, AllocError>
     requires round { length c.now.round ≡ vertices rows.now }
     requires by { length c.now.by ≡ vertices rows.now }
