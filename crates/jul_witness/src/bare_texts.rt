@@ -3,7 +3,7 @@ ghost use Rattle.std.specs.Prelude.{◌≡◌, ◌≤◌, ◌++◌, OnOk, OnErr}
 ghost use Rattle.jul_base.specs.Sinks.{Appended, FailedWriting, IsSent};
 ghost use Rattle.jul_witness.specs.Texts.{bare_line, bare_text};
 
-use crate::texts::put_value;
+use crate::lines::put_value;
 use jul_base::{Failed, Sink, TextBlock};
 
 fn put_line<S: Sink>(block: &mut TextBlock, sink: &mut S, value: u64) -> Result<(), Failed>

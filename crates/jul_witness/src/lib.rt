@@ -8,6 +8,7 @@
 mod bare_texts;
 mod faults;
 mod forms;
+mod lines;
 mod reading;
 mod texts;
 mod witnesses;

@@ -1,18 +1,16 @@
 //! The writing of results: a word, the number of vertices, and for each vertex a line of numbers.
-ghost use Rattle.std.specs.Prelude.{◌≡◌, ℕ, ◌^◌, ◌<◌, ◌≤◌, [], ◌∷◌, ◌++◌, length, OnOk, OnErr, Ok};
+ghost use Rattle.std.specs.Prelude.{◌≡◌, ℕ, ◌^◌, ◌<◌, ◌≤◌, [], ◌∷◌, length, OnOk, OnErr, Ok};
 ghost use Rattle.std.specs.List.{All};
-ghost use Rattle.jul_base.specs.declared.limits.TheConstants.{MAX_BYTES};
-ghost use Rattle.jul_base.specs.Sinks.{Appended, FailedWriting, IsSent};
+ghost use Rattle.jul_base.specs.declared.limits.TheConstants.{MAX_N, MAX_BYTES};
+ghost use Rattle.jul_base.specs.Sinks.{Appended, FailedWriting};
 ghost use Rattle.jul_witness.specs.declared.witnesses.Witness.TheVariants as witnesses;
-ghost use Rattle.jul_text.specs.Lines.{line_of};
-ghost use Rattle.jul_witness.specs.Forms.{word_of};
 ghost use Rattle.jul_witness.specs.Lawful.{AreLawfulCores, AreLawfulDistances, IsLawfulCover};
 ghost use Rattle.jul_witness.specs.Reading.{reads_witness};
-ghost use Rattle.jul_witness.specs.Texts.{value_text, values_line, head_lines, vertex_lines, result_text};
-ghost use Rattle.jul_witness.specs.Texts.{cores_text, distances_text, cover_text};
+ghost use Rattle.jul_witness.specs.Texts.{result_text, cores_text, distances_text, cover_text};
 
 use crate::forms::Form;
-use jul_base::{Cores, Cover, Distances, Failed, NONE, Sink, TextBlock};
+use crate::lines::{put_head, put_pairs, put_triples};
+use jul_base::{Cores, Cover, Distances, Failed, Sink, TextBlock};
 
 /// Writes cores as text: `Cores`, the number of vertices, and a line of core and level for each vertex.
 ///
@@ -79,7 +77,8 @@ pub fn write_cover<S: Sink>(sink: &mut S, c: &Cover) -> Result<(), Failed>
 
 // Writes the text of a result of two columns, whose numbers all have 64 bits.
 fn write_pairs<S: Sink>(sink: &mut S, form: Form, first: &[u64], second: &[u64]) -> Result<(), Failed>
-    requires { length second.now ≡ length first.now }
+    requires few { length first.now ≤ MAX_N }
+    requires same { length second.now ≡ length first.now }
 
     ensures ok { OnOk result (Appended (S.state sink.old) (S.state sink.new)
         (result_text form (length first.now) (first.now ∷ second.now ∷ []))) }
@@ -93,130 +92,4 @@ fn write_pairs<S: Sink>(sink: &mut S, form: Form, first: &[u64], second: &[u64])
     put_head(&mut block, sink, form, first.len())?;
     put_pairs(&mut block, sink, first, second)?;
     block.flush(sink)
-}
-
-// Puts the word and the number of vertices, each on a line.
-fn put_head<S: Sink>(block: &mut TextBlock, sink: &mut S, form: Form, n: usize) -> Result<(), Failed>
-    ensures ok { OnOk result (IsSent (S.state sink.old) (S.state sink.new) block.new
-        (block.old ++ head_lines (word_of form) n)) }
-    ensures err { OnErr result (FailedWriting (S.state sink.old) (S.state sink.new)
-        (block.old ++ head_lines (word_of form) n)) }
-    ensures faults { (S.state sink.old).faults ≤ (S.state sink.new).faults }
-{
-    block.put(sink, first_line(form))?;
-    block.put_u64(sink, n as u64)?;
-    block.put(sink, b"\n")
-}
-
-fn first_line(form: Form) -> &'static [u8]
-    ensures { result.now ≡ line_of (word_of form) }
-{
-    match form {
-        Form::Cores => b"Cores\n",
-        Form::Distances => b"Distances\n",
-        Form::Cover => b"Cover\n",
-    }
-}
-
-// Puts a line for each vertex, of its numbers in two columns.
-fn put_pairs<S: Sink>(
-    block: &mut TextBlock,
-    sink: &mut S,
-    first: &[u64],
-    second: &[u64],
-) -> Result<(), Failed>
-    requires { length second.now ≡ length first.now }
-
-    ensures ok { OnOk result (IsSent (S.state sink.old) (S.state sink.new) block.new
-        (block.old ++ vertex_lines (first.now ∷ second.now ∷ []) (length first.now))) }
-    ensures err { OnErr result (FailedWriting (S.state sink.old) (S.state sink.new)
-        (block.old ++ vertex_lines (first.now ∷ second.now ∷ []) (length first.now))) }
-    ensures faults { (S.state sink.old).faults ≤ (S.state sink.new).faults }
-    ensures first { All (λ x. x < 2 ^ 64) first.now }
-    ensures second { All (λ x. x < 2 ^ 64) second.now }
-{
-    for v in 0..first.len() {
-        put_pair(block, sink, first[v], second[v])?;
-    }
-    Ok(())
-}
-
-fn put_pair<S: Sink>(
-    block: &mut TextBlock,
-    sink: &mut S,
-    first: u64,
-    second: u64,
-) -> Result<(), Failed>
-    ensures ok { OnOk result (IsSent (S.state sink.old) (S.state sink.new) block.new
-        (block.old ++ values_line (first ∷ second ∷ []))) }
-    ensures err { OnErr result (FailedWriting (S.state sink.old) (S.state sink.new)
-        (block.old ++ values_line (first ∷ second ∷ []))) }
-    ensures faults { (S.state sink.old).faults ≤ (S.state sink.new).faults }
-{
-    put_value(block, sink, first, b" ")?;
-    put_value(block, sink, second, b"\n")
-}
-
-// Puts a line for each vertex, of its numbers in three columns.
-fn put_triples<S: Sink>(
-    block: &mut TextBlock,
-    sink: &mut S,
-    first: &[u64],
-    second: &[u64],
-    third: &[u64],
-) -> Result<(), Failed>
-    requires second { length second.now ≡ length first.now }
-    requires third { length third.now ≡ length first.now }
-
-    ensures ok { OnOk result (IsSent (S.state sink.old) (S.state sink.new) block.new
-        (block.old ++ vertex_lines (first.now ∷ second.now ∷ third.now ∷ []) (length first.now))) }
-    ensures err { OnErr result (FailedWriting (S.state sink.old) (S.state sink.new)
-        (block.old ++ vertex_lines (first.now ∷ second.now ∷ third.now ∷ []) (length first.now))) }
-    ensures faults { (S.state sink.old).faults ≤ (S.state sink.new).faults }
-    ensures first { All (λ x. x < 2 ^ 64) first.now }
-    ensures second { All (λ x. x < 2 ^ 64) second.now }
-    ensures third { All (λ x. x < 2 ^ 64) third.now }
-{
-    for v in 0..first.len() {
-        put_triple(block, sink, first[v], second[v], third[v])?;
-    }
-    Ok(())
-}
-
-fn put_triple<S: Sink>(
-    block: &mut TextBlock,
-    sink: &mut S,
-    first: u64,
-    second: u64,
-    third: u64,
-) -> Result<(), Failed>
-    ensures ok { OnOk result (IsSent (S.state sink.old) (S.state sink.new) block.new
-        (block.old ++ values_line (first ∷ second ∷ third ∷ []))) }
-    ensures err { OnErr result (FailedWriting (S.state sink.old) (S.state sink.new)
-        (block.old ++ values_line (first ∷ second ∷ third ∷ []))) }
-    ensures faults { (S.state sink.old).faults ≤ (S.state sink.new).faults }
-{
-    put_value(block, sink, first, b" ")?;
-    put_pair(block, sink, second, third)
-}
-
-/// Puts a number, or a minus sign for `NONE`, and the bytes behind it.
-pub(crate) fn put_value<S: Sink>(
-    block: &mut TextBlock,
-    sink: &mut S,
-    value: u64,
-    end: &[u8],
-) -> Result<(), Failed>
-    ensures ok { OnOk result (IsSent (S.state sink.old) (S.state sink.new) block.new
-        (block.old ++ (value_text value ++ end.now))) }
-    ensures err { OnErr result (FailedWriting (S.state sink.old) (S.state sink.new)
-        (block.old ++ (value_text value ++ end.now))) }
-    ensures faults { (S.state sink.old).faults ≤ (S.state sink.new).faults }
-{
-    if value == NONE {
-        block.put(sink, b"-")?;
-    } else {
-        block.put_u64(sink, value)?;
-    }
-    block.put(sink, end)
 }
