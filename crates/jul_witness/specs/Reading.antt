@@ -1,5 +1,5 @@
 -- The reading of a witness file: a witness, or the fault of the first token that has one.
-use Rattle.std.specs.Prelude.{◌≡◌, ℕ, ◌+◌, ◌-◌, ◌*◌, ◌&&◌, List, [], ◌∷◌, map, length, Option, Some, None, Result, Ok, Err, codes, nat_lt, ◌==◌, if◌then◌else◌}
+use Rattle.std.specs.Prelude.{◌≡◌, ℕ, ◌+◌, ◌-◌, ◌*◌, Bool, false, ◌&&◌, List, [], ◌∷◌, map, length, Option, Some, None, Result, Ok, Err, codes, nat_lt, ◌==◌, if◌then◌else◌}
 use Rattle.std.specs.List.{filter_map}
 use Rattle.std.specs.Option.{unwrap_or}
 use Rattle.std.specs.Str.{bytes_eq}
@@ -27,15 +27,19 @@ value_of numerals.Above = None
 value_of numerals.Negative = None
 value_of numerals.Bad = None
 
+-- a number up to a bound; NONE is written as a dash alone, and only where a dash may stand
+abbrev pub number_of : Bool → ℕ → List ℕ → Option ℕ
+number_of dash bound text =
+    if dash && bytes_eq text (codes "-") then Some NONE
+    else value_of (numeral text bound)
+
 -- the number of vertices
 abbrev pub count_of : List ℕ → Option ℕ
-count_of text = value_of (numeral text MAX_N)
+count_of text = number_of false MAX_N text
 
--- a number of a column: NONE is written as a dash alone, and only where a dash may stand
+-- a number of a column
 abbrev pub entry_of : Form → List ℕ → Option ℕ
-entry_of form text =
-    if takes_dash form && bytes_eq text (codes "-") then Some NONE
-    else value_of (numeral text (NONE - 1))
+entry_of form text = number_of (takes_dash form) (NONE - 1) text
 
 abbrev pub said_vertices : List Word → ℕ
 said_vertices ws = unwrap_or (count_of (text_at ws 1)) 0

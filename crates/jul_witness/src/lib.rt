@@ -6,10 +6,12 @@
 #![tactic(auto)]
 
 mod bare_texts;
+mod columns;
 mod faults;
 mod forms;
 mod lines;
 mod reading;
+mod scanning;
 mod texts;
 mod witnesses;
 

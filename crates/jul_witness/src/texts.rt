@@ -3,6 +3,7 @@ ghost use Rattle.std.specs.Prelude.{◌≡◌, ℕ, ◌^◌, ◌<◌, ◌≤◌,
 ghost use Rattle.std.specs.List.{All};
 ghost use Rattle.jul_base.specs.declared.limits.TheConstants.{MAX_N, MAX_BYTES};
 ghost use Rattle.jul_base.specs.Sinks.{Appended, FailedWriting};
+ghost use Rattle.jul_witness.specs.declared.forms.Form.TheVariants as forms;
 ghost use Rattle.jul_witness.specs.declared.witnesses.Witness.TheVariants as witnesses;
 ghost use Rattle.jul_witness.specs.Lawful.{AreLawfulCores, AreLawfulDistances, IsLawfulCover};
 ghost use Rattle.jul_witness.specs.Reading.{reads_witness};
@@ -49,10 +50,7 @@ pub fn write_distances<S: Sink>(sink: &mut S, d: &Distances) -> Result<(), Faile
         reads_witness (distances_text d.now) limit ≡ Ok (witnesses.Distances d.now) }
     ensures short { length (distances_text d.now) < MAX_BYTES }
 {
-    let mut block = TextBlock::new();
-    put_head(&mut block, sink, Form::Distances, d.dist.len())?;
-    put_triples(&mut block, sink, d.dist.as_slice(), d.hops.as_slice(), d.parent.as_slice())?;
-    block.flush(sink)
+    write_triples(sink, d.dist.as_slice(), d.hops.as_slice(), d.parent.as_slice())
 }
 
 /// Writes a cover as text: `Cover`, the number of vertices, and for each vertex a line of the round in which
@@ -91,5 +89,31 @@ fn write_pairs<S: Sink>(sink: &mut S, form: Form, first: &[u64], second: &[u64])
     let mut block = TextBlock::new();
     put_head(&mut block, sink, form, first.len())?;
     put_pairs(&mut block, sink, first, second)?;
+    block.flush(sink)
+}
+
+// Writes the text of distances, hops and parents, whose numbers all have 64 bits.
+fn write_triples<S: Sink>(
+    sink: &mut S,
+    first: &[u64],
+    second: &[u64],
+    third: &[u64],
+) -> Result<(), Failed>
+    requires few { length first.now ≤ MAX_N }
+    requires second { length second.now ≡ length first.now }
+    requires third { length third.now ≡ length first.now }
+
+    ensures ok { OnOk result (Appended (S.state sink.old) (S.state sink.new)
+        (result_text forms.Distances (length first.now) (first.now ∷ second.now ∷ third.now ∷ []))) }
+    ensures err { OnErr result (FailedWriting (S.state sink.old) (S.state sink.new)
+        (result_text forms.Distances (length first.now) (first.now ∷ second.now ∷ third.now ∷ []))) }
+    ensures faults { (S.state sink.old).faults ≤ (S.state sink.new).faults }
+    ensures first { All (λ x. x < 2 ^ 64) first.now }
+    ensures second { All (λ x. x < 2 ^ 64) second.now }
+    ensures third { All (λ x. x < 2 ^ 64) third.now }
+{
+    let mut block = TextBlock::new();
+    put_head(&mut block, sink, Form::Distances, first.len())?;
+    put_triples(&mut block, sink, first, second, third)?;
     block.flush(sink)
 }
