@@ -6,3 +6,4 @@ pub mod LawfulLaws
 pub mod PartLaws
 pub mod ReadBackLaws
 pub mod ResultLaws
+pub mod Rows

@@ -20,3 +20,6 @@ pub use faults::{WitnessError, WitnessFault, WitnessKind};
 pub use reading::read_witness;
 pub use texts::{write_cores, write_cover, write_distances};
 pub use witnesses::Witness;
+
+#[cfg(test)]
+mod tests;

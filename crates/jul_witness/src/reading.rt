@@ -91,8 +91,7 @@ fn read_distances(
     ensures exact { Gives result (read_tokens (tokens bytes.now) (length bytes.now)) }
     ensures lawful { IfOk result IsLawful }
 {
-    let ((dists, hops, parents), place) =
-        read_triples(alloc, bytes, place, Form::Distances, n)?;
+    let ((dists, hops, parents), place) = read_triples(alloc, bytes, place, Form::Distances, n)?;
     expect_end(bytes, place, Form::Distances)?;
     let dist = Column::from_vec(dists);
     let hops = Column::from_vec(hops);

@@ -50,7 +50,12 @@ pub fn write_distances<S: Sink>(sink: &mut S, d: &Distances) -> Result<(), Faile
         reads_witness (distances_text d.now) limit ≡ Ok (witnesses.Distances d.now) }
     ensures short { length (distances_text d.now) < MAX_BYTES }
 {
-    write_triples(sink, d.dist.as_slice(), d.hops.as_slice(), d.parent.as_slice())
+    write_triples(
+        sink,
+        d.dist.as_slice(),
+        d.hops.as_slice(),
+        d.parent.as_slice(),
+    )
 }
 
 /// Writes a cover as text: `Cover`, the number of vertices, and for each vertex a line of the round in which
@@ -74,7 +79,12 @@ pub fn write_cover<S: Sink>(sink: &mut S, c: &Cover) -> Result<(), Failed>
 }
 
 // Writes the text of a result of two columns, whose numbers all have 64 bits.
-fn write_pairs<S: Sink>(sink: &mut S, form: Form, first: &[u64], second: &[u64]) -> Result<(), Failed>
+fn write_pairs<S: Sink>(
+    sink: &mut S,
+    form: Form,
+    first: &[u64],
+    second: &[u64],
+) -> Result<(), Failed>
     requires few { length first.now ≤ MAX_N }
     requires same { length second.now ≡ length first.now }
 
