@@ -1,5 +1,5 @@
 -- The text of a result as tokens, each with a white byte behind it.
-use Rattle.std.proofs.Common.{◌≡◌, ℕ, zero, suc, ◌+◌, ◌*◌, ◌^◌, ◌<◌, ◌≤◌, Bool, true, false, ◌&&◌, cond, eqb, List, [], ◌∷◌, ◌++◌, map, length, get_or, decimal, refl, sym, ◌∙◌, ap, arith, inl, inr}
+use Rattle.std.proofs.Common.{◌≡◌, ℕ, ◌*◌, ◌^◌, ◌<◌, ◌≤◌, Bool, true, ◌&&◌, eqb, List, [], ◌∷◌, ◌++◌, map, length, get_or, decimal, refl, sym, ◌∙◌, ap, arith, inl, inr}
 use Rattle.std.specs.Prelude.{codes}
 use Rattle.std.specs.List.{All, flat_map, list_all}
 use Rattle.std.proofs.lemmas.Bool.{cases_Bool, cases_lt, cond-true, cond-false}
@@ -10,7 +10,7 @@ use Rattle.std.proofs.lemmas.Fmt.{length-decimal-le}
 use Rattle.jul_base.specs.declared.limits.TheConstants.{NONE, MAX_N, MAX_BYTES}
 use Rattle.jul_base.specs.Numbers.{below}
 use Rattle.jul_text.specs.Lines.{line_of}
-use Rattle.jul_text.specs.Tokens.{Word, tokens}
+use Rattle.jul_text.specs.Tokens.{tokens}
 use Rattle.jul_text.proofs.LineLaws.{texts, is_token, is_token-decimal, Parted, is_parted, part_text, texts-parts}
 use Rattle.jul_witness.specs.declared.forms.Form.{Form}
 use Rattle.jul_witness.specs.declared.forms.Form.TheVariants as forms

@@ -1,33 +1,32 @@
 -- The text of a result is read as the result.
-use Rattle.std.proofs.Common.{◌≡◌, ◌≢◌, ℕ, zero, suc, ◌+◌, ◌-◌, ◌*◌, ◌^◌, ◌<◌, ◌≤◌, ◌⊎◌, Bool, true, false, ◌&&◌, cond, List, [], ◌∷◌, ◌++◌, map, length, get_or, take, decimal, Option, Some, None, Ok, refl, sym, ◌∙◌, ap, arith, inl, inr}
+use Rattle.std.proofs.Common.{◌≡◌, ◌≢◌, ℕ, zero, suc, ◌+◌, ◌-◌, ◌*◌, ◌^◌, ◌<◌, ◌≤◌, ◌⊎◌, Bool, true, false, ◌&&◌, List, [], ◌∷◌, map, length, get_or, take, decimal, Option, Some, None, Ok, refl, sym, ◌∙◌, ap, arith, inl, inr}
 use Rattle.std.specs.Prelude.{codes}
-use Rattle.std.specs.List.{All, flat_map, list_all}
+use Rattle.std.specs.List.{All, list_all}
 use Rattle.std.specs.Char.{is_ascii_digit}
 use Rattle.std.specs.Option.{unwrap_or}
 use Rattle.std.specs.Str.{bytes_eq}
-use Rattle.std.proofs.lemmas.Bool.{cases_Bool, cases_eq, cond-false, le-ltb}
+use Rattle.std.proofs.lemmas.Bool.{cases_eq, cond-false}
 use Rattle.std.proofs.lemmas.Slice.Eq.{bytes_eq-Decides}
 use Rattle.std.proofs.lemmas.List.{ext_get_or, length-map, length-append, length-take, get_or-append-add}
 use Rattle.std.proofs.lemmas.List.Concat.{get_or-flat_map}
 use Rattle.std.proofs.lemmas.List.Elements.{All-append}
 use Rattle.std.proofs.lemmas.List.FromFn.{length-map-range_with_len, get_or-map-range_with_len}
-use Rattle.jul_base.specs.declared.limits.TheConstants.{NONE, MAX_N, MAX_BYTES}
+use Rattle.jul_base.specs.declared.limits.TheConstants.{NONE, MAX_N}
 use Rattle.jul_base.specs.Numbers.{below}
-use Rattle.jul_text.specs.Tokens.{Word, tokens}
-use Rattle.jul_text.specs.Scanning.{no_word, text_at}
-use Rattle.jul_text.specs.Numerals.{numeral}
+use Rattle.jul_text.specs.Tokens.{Word}
+use Rattle.jul_text.specs.Scanning.{text_at}
 use Rattle.jul_text.proofs.LineLaws.{texts}
 use Rattle.jul_text.proofs.NumeralLaws.{decimal_digits, numeral-decimal}
 use Rattle.jul_witness.specs.declared.forms.Form.{Form}
 use Rattle.jul_witness.specs.declared.forms.Form.TheVariants as forms
 use Rattle.jul_witness.specs.Forms.{word_of, form_of, columns_of, takes_dash}
-use Rattle.jul_witness.specs.Texts.{value_text, result_text}
-use Rattle.jul_witness.specs.Reading.{value_of, number_of, count_of, entry_of, said_vertices, all_tokens, fault_without, kind_at, entry_at, column_of, witness_of, read_tokens, reads_witness}
+use Rattle.jul_witness.specs.Texts.{value_text}
+use Rattle.jul_witness.specs.Reading.{value_of, number_of, count_of, entry_of, said_vertices, all_tokens, fault_without, kind_at, entry_at, column_of, witness_of, read_tokens}
 use Rattle.jul_witness.specs.Scanning.{NoneBefore}
 use Rattle.jul_witness.proofs.TextLaws.{value_text-number, length-below, get_or-below}
 use Rattle.jul_witness.proofs.RoleLaws.{kind_entry}
 use Rattle.jul_witness.proofs.ReadingLaws.{reads_whole}
-use Rattle.jul_witness.proofs.PartLaws.{AreColumns, row_of, entries, texts-result_text}
+use Rattle.jul_witness.proofs.PartLaws.{row_of, entries}
 
 -- ---- a number is read back
 

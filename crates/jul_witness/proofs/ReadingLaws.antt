@@ -1,11 +1,10 @@
 -- The first token that has a fault decides.
-use Rattle.std.proofs.Common.{◌≡◌, ℕ, zero, suc, ◌+◌, ◌-◌, ◌<◌, ◌≤◌, List, [], ◌∷◌, length, get_or, Option, Some, None, Result, Ok, Err, sym, ◌∙◌, refl, ap, arith, inl, inr}
+use Rattle.std.proofs.Common.{◌≡◌, ℕ, zero, suc, ◌+◌, ◌-◌, ◌<◌, ◌≤◌, List, [], ◌∷◌, length, Some, None, Ok, Err, ◌∙◌, refl, ap, arith, inl, inr}
 use Rattle.std.specs.List.{filter_map, range_with_len, cons_option}
 use Rattle.std.proofs.lemmas.Bool.{cases_eq, lt-ltb, le-ltb, cond-true, cond-false}
 use Rattle.jul_text.specs.Tokens.{Word}
 use Rattle.jul_text.specs.Scanning.{word_at, text_at}
 use Rattle.jul_witness.specs.declared.forms.Form.{Form}
-use Rattle.jul_witness.specs.declared.witnesses.Witness.{Witness}
 use Rattle.jul_witness.specs.declared.faults.WitnessFault.{WitnessFault}
 use Rattle.jul_witness.specs.declared.faults.WitnessKind.{WitnessKind}
 use Rattle.jul_witness.specs.declared.faults.WitnessKind.TheVariants.{Truncated}

@@ -8,16 +8,15 @@ use Rattle.jul_base.specs.declared.results.Cores.{Cores}
 use Rattle.jul_base.specs.declared.results.Distances.{Distances}
 use Rattle.jul_base.specs.declared.results.Cover.{Cover}
 use Rattle.jul_text.specs.Tokens.{Word, tokens}
-use Rattle.jul_text.proofs.LineLaws.{texts}
 use Rattle.jul_witness.specs.declared.forms.Form.{Form}
 use Rattle.jul_witness.specs.declared.forms.Form.TheVariants as forms
 use Rattle.jul_witness.specs.declared.witnesses.Witness.{Witness}
 use Rattle.jul_witness.specs.declared.witnesses.Witness.TheVariants as witnesses
-use Rattle.jul_witness.specs.Forms.{takes_dash, word_of}
+use Rattle.jul_witness.specs.Forms.{takes_dash}
 use Rattle.jul_witness.specs.Lawful.{AreLawfulCores, AreLawfulDistances, IsLawfulCover}
 use Rattle.jul_witness.specs.Texts.{result_text, cores_text, distances_text, cover_text}
-use Rattle.jul_witness.specs.Reading.{said_vertices, column_of, witness_of, read_tokens, reads_witness}
-use Rattle.jul_witness.proofs.PartLaws.{AreColumns, number_fits, texts-result_text, result_text-short}
+use Rattle.jul_witness.specs.Reading.{read_tokens, reads_witness}
+use Rattle.jul_witness.proofs.PartLaws.{number_fits, texts-result_text, result_text-short}
 use Rattle.jul_witness.proofs.ReadBackLaws.{IsEntry, AreEntries, reads_back, column_back}
 
 abbrev Fit : List ℕ → Type 0

@@ -1,5 +1,5 @@
 -- From one token of a witness to the next.
-use Rattle.std.proofs.Common.{◌≡◌, ℕ, ◌+◌, ◌*◌, ◌<◌, ◌≤◌, List, [], ◌∷◌, ◌++◌, map, length, Option, Some, None, Result, Ok, Err, sym, ◌∙◌, subst, refl, ap, arith}
+use Rattle.std.proofs.Common.{◌≡◌, ℕ, ◌+◌, ◌*◌, ◌<◌, List, [], ◌∷◌, ◌++◌, length, Option, Some, None, Ok, Err, sym, ◌∙◌, subst, ap, arith}
 use Rattle.std.specs.Option.{unwrap_or}
 use Rattle.std.proofs.lemmas.List.FromFn.{map-range_with_len_more}
 use Rattle.jul_text.specs.declared.tokens.Token.{Token}
@@ -10,7 +10,7 @@ use Rattle.jul_witness.specs.declared.forms.Form.{Form}
 use Rattle.jul_witness.specs.declared.faults.WitnessFault.{WitnessFault}
 use Rattle.jul_witness.specs.declared.faults.WitnessKind.{WitnessKind}
 use Rattle.jul_witness.specs.declared.faults.WitnessKind.TheVariants.{Truncated, Trailing}
-use Rattle.jul_witness.specs.Forms.{form_of, columns_of}
+use Rattle.jul_witness.specs.Forms.{columns_of}
 use Rattle.jul_witness.specs.Reading.{entry_of, entry_at, column_of, all_tokens, kind_at, witness_of, read_tokens}
 use Rattle.jul_witness.specs.Scanning.{NoneBefore, IsClean}
 use Rattle.jul_witness.proofs.RoleLaws.{kind_extra}

@@ -1,5 +1,5 @@
 -- Results that a text can hold: columns of one length, of at most so many vertices as a graph may have.
-use Rattle.std.specs.Prelude.{◌≡◌, ◌≢◌, ℕ, ◌≤◌, List, length}
+use Rattle.std.specs.Prelude.{◌≡◌, ◌≢◌, ◌≤◌, length}
 use Rattle.std.specs.List.{All}
 use Rattle.jul_base.specs.declared.limits.TheConstants.{NONE, MAX_N}
 use Rattle.jul_base.specs.declared.results.Cores.{Cores}

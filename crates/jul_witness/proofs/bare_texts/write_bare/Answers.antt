@@ -1,6 +1,5 @@
-use Rattle.std.proofs.Common.{◌≡◌, ℕ, List, [], ◌++◌, ◌<◌, ◌≤◌, length, get_or, take, refl, subst, arith}
+use Rattle.std.proofs.Common.{[], get_or, refl, arith}
 use Rattle.std.proofs.lemmas.Result.{on_ok_weaker, on_err_weaker}
-use Rattle.jul_base.specs.Sinks.{SinkState, IsSent}
 use Rattle.jul_base.proofs.SinkLaws.{IsSent-start, IsSent-end}
 use Rattle.jul_base.proofs.SendingLaws.{on_err_holds, sent_piece, failed_piece, sent_pieces, failed_at_end}
 use Rattle.jul_witness.specs.Texts.{bare_line, bare_text}

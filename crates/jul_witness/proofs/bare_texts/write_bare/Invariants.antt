@@ -1,4 +1,4 @@
-use Rattle.std.proofs.Common.{◌++◌, ◌≤◌, [], take}
+use Rattle.std.proofs.Common.{◌≤◌, take}
 use Rattle.std.specs.List.{flat_map}
 use Rattle.jul_base.specs.Sinks.{IsSent}
 use Rattle.jul_witness.specs.Texts.{bare_line}

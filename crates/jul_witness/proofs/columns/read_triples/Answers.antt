@@ -1,4 +1,4 @@
-use Rattle.std.proofs.Common.{◌≡◌, ℕ, List, ◌+◌, ◌*◌, ◌++◌, ◌∷◌, [], ◌∙◌, ap, arith}
+use Rattle.std.proofs.Common.{ℕ, List, ◌+◌, ◌++◌, ◌∷◌, [], ◌∙◌, ap, arith}
 use Rattle.jul_text.specs.Tokens.{Word, tokens}
 use Rattle.jul_witness.proofs.ScanningLaws.{column_push}
 use Rattle.jul_witness.proofs.columns.read_triples.Goals as goal

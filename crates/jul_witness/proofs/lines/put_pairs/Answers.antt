@@ -1,8 +1,6 @@
-use Rattle.std.proofs.Common.{◌≡◌, ℕ, List, [], ◌∷◌, ◌++◌, ◌<◌, ◌≤◌, ◌^◌, length, get_or, take, subst, arith}
-use Rattle.std.specs.List.{flat_map}
+use Rattle.std.proofs.Common.{ℕ, [], ◌∷◌, ◌<◌, ◌^◌, length, arith}
 use Rattle.std.proofs.lemmas.List.Elements.{All-from_get_or}
 use Rattle.jul_base.specs.Numbers.{below}
-use Rattle.jul_base.specs.Sinks.{SinkState, FailedWriting, IsSent}
 use Rattle.jul_base.proofs.SendingLaws.{on_err_holds, sent_piece, failed_piece, sent_pieces}
 use Rattle.jul_witness.specs.Texts.{vertex_line}
 use Rattle.jul_witness.proofs.TextLaws.{length-below, get_or-below}

@@ -1,7 +1,7 @@
 use Rattle.std.proofs.Common.{◌≡◌, ℕ, List, [], ◌∷◌, ◌^◌, ◌<◌, length, ◌∙◌, subst, ap}
 use Rattle.std.specs.List.{All}
 use Rattle.std.proofs.lemmas.Result.{on_ok_weaker, on_err_weaker}
-use Rattle.jul_base.specs.Sinks.{SinkState, Appended, FailedWriting}
+use Rattle.jul_base.specs.Sinks.{Appended, FailedWriting}
 use Rattle.jul_base.specs.declared.results.Cover.{Cover}
 use Rattle.jul_witness.specs.declared.forms.Form.TheVariants as forms
 use Rattle.jul_witness.specs.Texts.{result_text, cover_text}
