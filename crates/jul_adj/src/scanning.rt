@@ -2,9 +2,9 @@
 ghost use Rattle.std.specs.Prelude.{◌≡◌, ◌+◌, ◌<◌, length, IfSome, IfNone};
 ghost use Rattle.jul_text.specs.Tokens.{tokens};
 ghost use Rattle.jul_text.specs.Numerals.{numeral};
+ghost use Rattle.jul_text.specs.Scanning.{word_at, text_at, IsAt};
 
 use jul_text::{Numeral, next_token, read_number};
-ghost use Rattle.jul_text.specs.Scanning.{word_at, text_at, IsAt};
 
 /// A place between two tokens, and the number of the token behind it.
 #[derive(Clone, Copy)]
