@@ -12,15 +12,15 @@ use Rattle.jul_text.specs.Tokens.{Word}
 use Rattle.jul_text.specs.Numerals.{numeral, is_numeral, is_negative}
 use Rattle.jul_text.specs.declared.numerals.Numeral.{Numeral}
 use Rattle.jul_text.specs.declared.numerals.Numeral.TheVariants.{Value, Above, Negative, Bad}
+use Rattle.jul_text.specs.Scanning.{text_at, no_word}
 use Rattle.jul_adj.specs.declared.faults.Fault.{Fault}
 use Rattle.jul_adj.specs.declared.faults.FaultKind.{FaultKind}
 use Rattle.jul_adj.specs.declared.faults.FaultKind.TheVariants as kinds
-use Rattle.jul_adj.specs.Roles.{text_at, value_at, said_vertices, said_places, first_target, first_weight, all_tokens, is_weighted}
+use Rattle.jul_adj.specs.Roles.{value_at, said_vertices, said_places, first_target, first_weight, all_tokens, is_weighted}
 use Rattle.jul_adj.specs.Faults.{weight_fault, kind_at, fault_in, fault_at, with_place, faults, number_fault, next_offset_fault, target_fault, offset_fault}
 use Rattle.jul_adj.specs.Reading.{values_between, graph_of, decided, read_tokens}
 use Rattle.jul_adj.specs.Scanning.{NoneBefore}
 use Rattle.jul_adj.proofs.RoleLaws.{role_offset, role_target, role_weight}
-use Rattle.jul_adj.proofs.ScanningLaws.{no_word}
 
 -- ---- no fault at all
 

@@ -3,10 +3,11 @@ use Rattle.std.proofs.Common.{◌≡◌, ℕ, zero, suc, ◌+◌, ◌-◌, ◌<�
 use Rattle.std.specs.List.{filter_map, range_with_len, cons_option}
 use Rattle.std.proofs.lemmas.Bool.{cases_eq, lt-ltb, le-ltb, cond-true, cond-false}
 use Rattle.jul_text.specs.Tokens.{Word}
+use Rattle.jul_text.specs.Scanning.{word_at}
 use Rattle.jul_adj.specs.declared.faults.Fault.{Fault}
 use Rattle.jul_adj.specs.declared.faults.FaultKind.{FaultKind}
 use Rattle.jul_adj.specs.declared.faults.FaultKind.TheVariants.{Truncated}
-use Rattle.jul_adj.specs.Roles.{word_at, all_tokens}
+use Rattle.jul_adj.specs.Roles.{all_tokens}
 use Rattle.jul_adj.specs.Faults.{kind_at, fault_at, with_place, faults}
 use Rattle.jul_adj.specs.Reading.{graph_of, decided, read_tokens}
 use Rattle.jul_adj.specs.Scanning.{NoneBefore}

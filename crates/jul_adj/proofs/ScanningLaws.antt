@@ -1,57 +1,21 @@
 -- From one token to the next.
-use Rattle.std.proofs.Common.{◌≡◌, ℕ, ◌+◌, ◌<◌, ◌≤◌, ◌-◌, Bool, List, [], ◌∷◌, ◌++◌, map, length, get_or, take, drop, Some, None, Ok, Err, sym, ◌∙◌, subst, ap, arith, inl, inr}
-use Rattle.std.proofs.lemmas.Bool.{cases_lt}
-use Rattle.std.proofs.lemmas.List.{drop_more, drop_all, length-drop, take_more, get_or-drop, map_push}
+use Rattle.std.proofs.Common.{◌≡◌, ℕ, ◌+◌, ◌<◌, ◌≤◌, ◌-◌, Bool, List, [], ◌∷◌, ◌++◌, map, length, get_or, take, drop, Some, None, Ok, Err, sym, ◌∙◌, subst, ap, arith}
+use Rattle.std.proofs.lemmas.List.{length-drop, take_more, get_or-drop, map_push}
 use Rattle.std.specs.Str.Parse.{digits_value}
 use Rattle.jul_text.specs.declared.tokens.Token.{Token}
-use Rattle.jul_text.specs.Tokens.{Word, tokens, tokens_from, word_of, IsNextToken}
+use Rattle.jul_text.specs.Tokens.{Word, tokens, tokens_from, word_of}
+use Rattle.jul_text.specs.Scanning.{no_word, word_at, IsAt}
+use Rattle.jul_text.proofs.ScanningLaws.{IsFirst, next_first, no_next}
 use Rattle.jul_base.specs.declared.graphs.RawGraph.{RawGraph}
 use Rattle.jul_adj.specs.declared.faults.Fault.{Fault}
 use Rattle.jul_adj.specs.declared.faults.FaultKind.{FaultKind}
 use Rattle.jul_adj.specs.declared.faults.FaultKind.TheVariants.{Truncated, Trailing}
-use Rattle.jul_adj.specs.Roles.{word_at, value_at, all_tokens}
+use Rattle.jul_adj.specs.Roles.{value_at, all_tokens}
 use Rattle.jul_adj.specs.Faults.{kind_at, fault_in}
 use Rattle.jul_adj.specs.Reading.{values_between, graph_of, read_tokens}
-use Rattle.jul_adj.specs.Scanning.{IsAt, IsClean, NoneBefore}
+use Rattle.jul_adj.specs.Scanning.{IsClean, NoneBefore}
 use Rattle.jul_adj.proofs.RoleLaws.{role_extra}
 use Rattle.jul_adj.proofs.ReadingLaws.{none_more, reads_fault, reads_truncated, reads_graph}
-
--- what the first of the tokens from a number on says
-pub record IsFirst (ws : List Word) (j : ℕ) (w : Word) (rest : List Word) : Type 0 where
-  pub there : j < length ws
-  pub word : word_at ws j ≡ w
-  pub others : drop (j + 1) ws ≡ rest
-
-first_of_drop : (ws : List Word) (j : ℕ) (w : Word) (rest : List Word) → drop j ws ≡ w ∷ rest → IsFirst ws j w rest
-first_of_drop ws j w rest e =
-    elim (cases_lt j (length ws)) [
-      | inl lt ↦
-          let more : drop j ws ≡ word_at ws j ∷ drop (j + 1) ws = drop_more ws j (record { start = 0; text = [] }) lt in
-          record { there = lt; word = cc; others = cc }
-      | inr le ↦
-          let none : drop j ws ≡ [] = drop_all j ws le in
-          absurd (cc)
-    ]
-
-pub next_first : (bytes : List ℕ) (at j : ℕ) (t : Token) → IsAt bytes at j → tokens_from bytes at ≡ word_of bytes t ∷ tokens_from bytes t.end →
-    IsFirst (tokens bytes) j (word_of bytes t) (tokens_from bytes t.end)
-next_first bytes at j t here first = first_of_drop (tokens bytes) j (word_of bytes t) (tokens_from bytes t.end) (here.rest ∙ first)
-
-pub next_at : (bytes : List ℕ) (at j : ℕ) (t : Token) → IsAt bytes at j → IsNextToken bytes at t → tokens_from bytes at ≡ word_of bytes t ∷ tokens_from bytes t.end →
-    IsAt bytes t.end (j + 1)
-next_at bytes at j t here next first =
-    let f : IsFirst (tokens bytes) j (word_of bytes t) (tokens_from bytes t.end) = next_first bytes at j t here first in
-    record {
-      within = next.within;
-      fewer = omega (arith, here.fewer, next.after, next.some);
-      count = omega (arith, f.there);
-      rest = f.others;
-    }
-
-pub no_next : (bytes : List ℕ) (at j : ℕ) → IsAt bytes at j → tokens_from bytes at ≡ [] → length (tokens bytes) ≡ j
-no_next bytes at j here none =
-    let gone : length (drop j (tokens bytes)) ≡ 0 = ap length (here.rest ∙ none) in
-    omega (arith, gone, length-drop j (tokens bytes), here.count)
 
 -- the fault of a token, where none before it has one
 pub fault_is : (bytes : List ℕ) (at j len start : ℕ) (kind : FaultKind) (f : Fault) → IsClean bytes at j → j < length (tokens bytes) →
@@ -72,9 +36,6 @@ truncated_is bytes at j len f clean end asked e =
 -- one more token without a fault
 pub clean_more : (bytes : List ℕ) (at j at' j' : ℕ) → IsClean bytes at j → kind_at (tokens bytes) j ≡ None → IsAt bytes at' j' → j' ≡ j + 1 → IsClean bytes at' j'
 clean_more bytes at j at' j' clean none here e = record { here = here; none = subst (NoneBefore (tokens bytes)) (sym e) (none_more (tokens bytes) j clean.none none) }
-
-abbrev pub no_word : Word
-no_word = record { start = 0; text = [] }
 
 -- one more value of a range of tokens
 pub values_push : (ws : List Word) (from j : ℕ) → from ≤ j → j < length ws → values_between ws from (j + 1) ≡ values_between ws from j ++ value_at ws j ∷ []

@@ -1,7 +1,7 @@
 -- The text of a lawful graph: its parts, its tokens, and its length.
-use Rattle.std.proofs.Common.{◌≡◌, ℕ, suc, ◌+◌, ◌*◌, ◌^◌, ◌<◌, ◌≤◌, Bool, true, false, ◌&&◌, cond, List, [], ◌∷◌, ◌++◌, map, length, ◌∙◌, refl, ap, arith, decimal}
-use Rattle.std.specs.List.{All, list_all}
-use Rattle.std.proofs.lemmas.List.{length-append, append_assoc}
+use Rattle.std.proofs.Common.{◌≡◌, ℕ, suc, ◌+◌, ◌*◌, ◌^◌, ◌<◌, ◌≤◌, Bool, true, false, ◌&&◌, cond, List, [], ◌∷◌, ◌++◌, map, length, get_or, take, drop, sym, ◌∙◌, refl, ap, arith, decimal}
+use Rattle.std.specs.List.{All, flat_map, list_all}
+use Rattle.std.proofs.lemmas.List.{length-append, append_assoc, append-nil, take_more, map_push, map-append, take-append-drop}
 use Rattle.std.proofs.lemmas.List.Folds.{list_all-append}
 use Rattle.std.proofs.lemmas.Grind.{flat_map-append}
 use Rattle.std.proofs.lemmas.Fmt.{length-decimal-le}
@@ -73,6 +73,28 @@ lines_short (x ∷ xs) small =
 pub graph_text-parts : (g : RawGraph) → graph_text g ≡ size_lines g ++ number_lines g.offsets ++ number_lines g.targets ++ number_lines g.weights
 unfolding graph_text
 graph_text-parts g = simp (flat_map-append line_of, append_assoc)
+
+-- ---- the lines of numbers, one after another
+
+-- the lines of numbers, one more
+pub number_lines-more : (xs : List ℕ) (i : ℕ) → i < length xs → number_lines (take i xs) ++ line_of (decimal (get_or xs i 0)) ≡ number_lines (take (i + 1) xs)
+number_lines-more xs i lt =
+    let line : List ℕ = line_of (decimal (get_or xs i 0)) in
+    sym (ap number_lines (take_more xs i 0 lt)
+    ∙ ap (flat_map line_of) (map_push decimal (take i xs) (get_or xs i 0))
+    ∙ flat_map-append line_of (map decimal (take i xs)) (decimal (get_or xs i 0) ∷ [])
+    ∙ ap (λ (l : List ℕ). number_lines (take i xs) ++ l) (append-nil line))
+
+-- one more line, and those behind it
+pub number_lines-rest : (xs : List ℕ) (i : ℕ) → i < length xs →
+    number_lines (take i xs) ++ line_of (decimal (get_or xs i 0)) ++ number_lines (drop (i + 1) xs) ≡ number_lines xs
+number_lines-rest xs i lt =
+    let split : take (i + 1) xs ++ drop (i + 1) xs ≡ xs = take-append-drop (i + 1) xs in
+    ap (λ (t : List ℕ). t ++ number_lines (drop (i + 1) xs)) (number_lines-more xs i lt)
+    ∙ sym (flat_map-append line_of (map decimal (take (i + 1) xs)) (map decimal (drop (i + 1) xs)))
+    ∙ ap (flat_map line_of) (sym (map-append decimal (take (i + 1) xs) (drop (i + 1) xs)) ∙ ap (map decimal) split)
+
+-- ---- the length of the text
 
 -- a graph has at most one weight for each place
 few_weights : (b : Bool) (m count : ℕ) → count ≡ cond b m 0 → count ≤ m

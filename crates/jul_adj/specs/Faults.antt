@@ -8,10 +8,11 @@ use Rattle.jul_text.specs.Tokens.{Word}
 use Rattle.jul_text.specs.Numerals.{numeral}
 use Rattle.jul_text.specs.declared.numerals.Numeral.{Numeral}
 use Rattle.jul_text.specs.declared.numerals.Numeral.TheVariants.{Value, Above, Negative, Bad}
+use Rattle.jul_text.specs.Scanning.{word_at, text_at}
 use Rattle.jul_adj.specs.declared.faults.Fault.{Fault}
 use Rattle.jul_adj.specs.declared.faults.FaultKind.{FaultKind}
 use Rattle.jul_adj.specs.declared.faults.FaultKind.TheVariants.{Header, BadNumber, TooManyVertices, TooManyEdges, FirstOffset, OffsetRange, OffsetOrder, TargetRange, NegativeWeight, WeightRange, Trailing}
-use Rattle.jul_adj.specs.Roles.{Role, header, vertex_count, place_count, offset, target, weight, extra, word_at, text_at, value_at, plain_word, weighted_word, said_vertices, said_places, role_at}
+use Rattle.jul_adj.specs.Roles.{Role, header, vertex_count, place_count, offset, target, weight, extra, value_at, plain_word, weighted_word, said_vertices, said_places, role_at}
 
 -- one of the two words
 abbrev pub header_fault : List ℕ → Option FaultKind

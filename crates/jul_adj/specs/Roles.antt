@@ -1,15 +1,9 @@
 -- What each token of a graph file stands for, by its number.
-use Rattle.std.specs.Prelude.{ℕ, ◌+◌, Bool, List, [], get_or, codes, nat_lt, ◌==◌, if◌then◌else◌}
+use Rattle.std.specs.Prelude.{ℕ, ◌+◌, Bool, List, codes, nat_lt, ◌==◌, if◌then◌else◌}
 use Rattle.std.specs.Str.{bytes_eq}
 use Rattle.std.specs.Str.Parse.{digits_value}
 use Rattle.jul_text.specs.Tokens.{Word}
-
--- the token with a number, one of no bytes where there is none
-abbrev pub word_at : List Word → ℕ → Word
-word_at ws j = get_or ws j (record { start = 0; text = [] })
-
-abbrev pub text_at : List Word → ℕ → List ℕ
-text_at ws j = (word_at ws j).text
+use Rattle.jul_text.specs.Scanning.{text_at}
 
 -- the decimal value of its digits
 abbrev pub value_at : List Word → ℕ → ℕ

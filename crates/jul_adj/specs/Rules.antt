@@ -4,10 +4,10 @@ use Rattle.jul_base.specs.declared.limits.TheConstants.{MAX_N, MAX_W}
 use Rattle.jul_text.specs.Tokens.{Word}
 use Rattle.jul_text.specs.Numerals.{numeral}
 use Rattle.jul_text.specs.declared.numerals.Numeral.{Numeral}
+use Rattle.jul_text.specs.Scanning.{text_at}
 use Rattle.jul_adj.specs.declared.faults.FaultKind.{FaultKind}
 use Rattle.jul_adj.specs.declared.rules.Rule.{Rule}
 use Rattle.jul_adj.specs.declared.rules.Rule.TheVariants.{Count, Offset, Target, Weight}
-use Rattle.jul_adj.specs.Roles.{text_at}
 use Rattle.jul_adj.specs.Faults.{number_fault, next_offset_fault, target_fault, weight_fault, kind_at}
 
 abbrev pub bound_of : Rule → ℕ

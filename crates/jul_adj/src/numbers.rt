@@ -2,7 +2,8 @@
 ghost use Rattle.std.specs.Prelude.{◌≡◌, ◌+◌, ◌^◌, ◌<◌, ◌≤◌, ℕ, length, IfOk, IfErr, Err};
 ghost use Rattle.jul_text.specs.Tokens.{tokens};
 ghost use Rattle.jul_text.specs.Numerals.{numeral};
-ghost use Rattle.jul_adj.specs.Roles.{text_at, value_at, all_tokens};
+ghost use Rattle.jul_text.specs.Scanning.{text_at};
+ghost use Rattle.jul_adj.specs.Roles.{value_at, all_tokens};
 ghost use Rattle.jul_adj.specs.Faults.{kind_at};
 ghost use Rattle.jul_adj.specs.Rules.{bound_of, rule_fault, AreRuledBy};
 ghost use Rattle.jul_adj.specs.Reading.{values_between, read_tokens, Fails};

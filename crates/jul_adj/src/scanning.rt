@@ -2,8 +2,7 @@
 ghost use Rattle.std.specs.Prelude.{◌≡◌, ◌+◌, ◌<◌, length, IfSome, IfNone};
 ghost use Rattle.jul_text.specs.Tokens.{tokens};
 ghost use Rattle.jul_text.specs.Numerals.{numeral};
-ghost use Rattle.jul_adj.specs.Roles.{word_at, text_at};
-ghost use Rattle.jul_adj.specs.Scanning.{IsAt};
+ghost use Rattle.jul_text.specs.Scanning.{word_at, text_at, IsAt};
 
 use jul_text::{Numeral, next_token, read_number};
 

@@ -1,7 +1,7 @@
 use Rattle.std.proofs.Common.{◌≡◌, length, sym, ◌∙◌, ap}
 use Rattle.jul_text.specs.Tokens.{tokens}
 use Rattle.jul_text.specs.Numerals.{numeral}
-use Rattle.jul_adj.specs.Roles.{text_at}
+use Rattle.jul_text.specs.Scanning.{text_at}
 use Rattle.jul_adj.specs.Faults.{kind_at}
 use Rattle.jul_adj.specs.Rules.{rule_fault}
 use Rattle.jul_adj.proofs.ScanningLaws.{fault_is, truncated_is, clean_more}

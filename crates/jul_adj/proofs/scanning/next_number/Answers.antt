@@ -1,7 +1,7 @@
 use Rattle.std.proofs.Common.{sym, ◌∙◌, ap}
 use Rattle.jul_text.specs.Tokens.{Word, tokens, tokens_from, word_of}
 use Rattle.jul_text.specs.Numerals.{numeral}
-use Rattle.jul_adj.proofs.ScanningLaws.{IsFirst, next_first, next_at, no_next}
+use Rattle.jul_text.proofs.ScanningLaws.{IsFirst, next_first, next_at, no_next}
 use Rattle.jul_adj.proofs.scanning.next_number.Goals as goal
 
 pub returns-in_err-token-clause-none : goal.returns-in_err-token-clause-none

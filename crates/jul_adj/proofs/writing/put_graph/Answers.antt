@@ -2,9 +2,9 @@ use Rattle.std.proofs.Common.{◌≡◌, ℕ, List, ◌++◌, sym, ◌∙◌, ap
 use Rattle.std.proofs.lemmas.Result.{on_ok_weaker, on_err_weaker}
 use Rattle.jul_base.specs.declared.graphs.RawGraph.{RawGraph}
 use Rattle.jul_base.specs.Sinks.{SinkState, FailedWriting, IsSent}
+use Rattle.jul_base.proofs.SendingLaws.{on_err_holds, sent_more, failed_more, failed_before}
 use Rattle.jul_adj.specs.Texts.{size_lines, number_lines, graph_text}
 use Rattle.jul_adj.proofs.TextLaws.{graph_text-parts}
-use Rattle.jul_adj.proofs.SendingLaws.{on_err_holds, sent_more, failed_more, failed_before}
 use Rattle.jul_adj.proofs.writing.put_graph.Goals as goal
 
 -- the lines that were put are the text of the graph

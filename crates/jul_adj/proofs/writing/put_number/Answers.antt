@@ -1,6 +1,6 @@
 use Rattle.std.proofs.Common.{[], ◌∷◌, decimal}
 use Rattle.std.proofs.lemmas.Result.{on_ok_weaker, on_err_weaker}
-use Rattle.jul_adj.proofs.SendingLaws.{sent_more, failed_more}
+use Rattle.jul_base.proofs.SendingLaws.{sent_more, failed_more}
 use Rattle.jul_adj.proofs.writing.put_number.Goals as goal
 
 pub returns-clause-ok : goal.returns-clause-ok

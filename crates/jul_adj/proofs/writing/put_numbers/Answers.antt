@@ -1,8 +1,9 @@
 use Rattle.std.proofs.Common.{ℕ, List, ◌++◌, ◌+◌, get_or, take, drop, decimal, subst, arith}
 use Rattle.jul_base.specs.Sinks.{SinkState, FailedWriting, IsSent}
 use Rattle.jul_text.specs.Lines.{line_of}
+use Rattle.jul_base.proofs.SendingLaws.{on_err_holds, sent_more, failed_more, failed_before}
 use Rattle.jul_adj.specs.Texts.{number_lines}
-use Rattle.jul_adj.proofs.SendingLaws.{on_err_holds, sent_more, failed_more, failed_before, number_lines-more, number_lines-rest}
+use Rattle.jul_adj.proofs.TextLaws.{number_lines-more, number_lines-rest}
 use Rattle.jul_adj.proofs.writing.put_numbers.Goals as goal
 
 pub returns-in_err-put_number-clause-err : goal.returns-in_err-put_number-clause-err

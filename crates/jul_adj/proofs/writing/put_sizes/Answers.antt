@@ -4,8 +4,8 @@ use Rattle.jul_base.specs.declared.graphs.RawGraph.{RawGraph}
 use Rattle.jul_base.specs.Graph.{vertices, places}
 use Rattle.jul_base.specs.Sinks.{SinkState, FailedWriting, IsSent}
 use Rattle.jul_text.specs.Lines.{line_of}
+use Rattle.jul_base.proofs.SendingLaws.{on_err_holds, sent_more, failed_more, failed_before}
 use Rattle.jul_adj.specs.Texts.{header_word, size_lines}
-use Rattle.jul_adj.proofs.SendingLaws.{on_err_holds, sent_more, failed_more, failed_before}
 use Rattle.jul_adj.proofs.writing.put_sizes.Goals as goal
 
 -- the lines that were put are those of the graph

@@ -1,8 +1,8 @@
 use Rattle.std.proofs.Common.{ℕ, List, ◌++◌, subst}
 use Rattle.std.proofs.lemmas.Result.{on_err_weaker}
 use Rattle.jul_base.specs.Sinks.{SinkState, IsSent}
+use Rattle.jul_base.proofs.SendingLaws.{failed_at_end}
 use Rattle.jul_adj.specs.Texts.{graph_text}
-use Rattle.jul_adj.proofs.SendingLaws.{failed_at_end}
 use Rattle.jul_adj.proofs.writing.write_graph.Goals as goal
 
 pub returns-clause-err : goal.returns-clause-err
