@@ -59,7 +59,8 @@ impl MemShelf {
 
 // The place of the first file of this name.
 fn find_file(files: &Vec<(String, Vec<u8>)>, name: &str) -> Option<usize>
-    ensures found { IfSome result (λ i. contents (files_of files.now.items) name.now ≡ Some (bytes_at files.now.items i)) }
+    ensures found { IfSome result (λ i.
+        contents (files_of files.now.items) name.now ≡ Some (bytes_at files.now.items i)) }
     ensures named { IfSome result (λ i. name_at files.now.items i ≡ Some name.now) }
     ensures none { IfNone result (contents (files_of files.now.items) name.now ≡ None) }
 {
@@ -102,18 +103,24 @@ impl Shelf for MemShelf {
     ghost state = { shelf_state };
 
     fn open(&mut self, name: &str) -> Result<(), Failed>
-        ensures ok { OnOk result ((shelf_state self.new).told ≡ option_map (after_open name.now) (shelf_state self.old).told) }
-        ensures err { OnErr result ((shelf_state self.new).told ≡ option_map (after_failed_open name.now) (shelf_state self.old).told) }
+        ensures ok { OnOk result
+            ((shelf_state self.new).told ≡ option_map (after_open name.now) (shelf_state self.old).told) }
+        ensures err { OnErr result
+            ((shelf_state self.new).told ≡ option_map (after_failed_open name.now) (shelf_state self.old).told) }
         ensures is_open { (shelf_state self.new).is_open ≡ is_ok result }
 
         ensures missing { IsMissing (shelf_state self.old) name.now → IsErr result }
-        ensures cause { OnErr result (Rose (shelf_state self.old).faults (shelf_state self.new).faults ⊎ IsMissing (shelf_state self.old) name.now) }
+        ensures cause { OnErr result (Rose (shelf_state self.old).faults (shelf_state self.new).faults
+            ⊎ IsMissing (shelf_state self.old) name.now) }
         ensures faults { (shelf_state self.old).faults ≤ (shelf_state self.new).faults }
 
         // It fails exactly by its list and for an unknown name; only a failure by the list is a fault.
         ensures fails { IsErr result ↔ ((is_listed self.old.fails.items (call_after self.old.calls) ≡ true)
             ⊎ (contents (files_of self.old.files.items) name.now ≡ None)) }
-        ensures unlisted { is_listed self.old.fails.items (call_after self.old.calls) ≡ false → self.new.faults ≡ self.old.faults }
+        ensures listed { is_listed self.old.fails.items (call_after self.old.calls) ≡ true →
+            Rose (shelf_state self.old).faults (shelf_state self.new).faults }
+        ensures unlisted { is_listed self.old.fails.items (call_after self.old.calls) ≡ false →
+            self.new.faults ≡ self.old.faults }
         ensures call { self.new.calls ≡ call_after self.old.calls }
         ensures kept { self.new.fails ≡ self.old.fails }
     {
@@ -139,7 +146,8 @@ impl Shelf for MemShelf {
         ensures ok { IfOk result (λ n. (shelf_state self.new).told ≡ option_map (after_read n) (shelf_state self.old).told) }
         ensures is_open { (shelf_state self.new).is_open ≡ true }
 
-        ensures err { OnErr result (files_and_last (shelf_state self.new).told ≡ files_and_last (shelf_state self.old).told) }
+        ensures err { OnErr result
+            (files_and_last (shelf_state self.new).told ≡ files_and_last (shelf_state self.old).told) }
         ensures rose { OnErr result (Rose (shelf_state self.old).faults (shelf_state self.new).faults) }
         ensures faults { (shelf_state self.old).faults ≤ (shelf_state self.new).faults }
 

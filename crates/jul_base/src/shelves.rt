@@ -22,7 +22,8 @@ pub trait Shelf {
         ensures is_open { (state self.new).is_open ≡ is_ok result }
 
         ensures missing { IsMissing (state self.old) name.now → IsErr result }
-        ensures cause { OnErr result (Rose (state self.old).faults (state self.new).faults ⊎ IsMissing (state self.old) name.now) }
+        ensures cause { OnErr result (Rose (state self.old).faults (state self.new).faults
+            ⊎ IsMissing (state self.old) name.now) }
         ensures faults { (state self.old).faults ≤ (state self.new).faults };
 
     /// Moves the first bytes that are left into the front of `buf` and answers how many. It answers 0 for a
