@@ -1,6 +1,7 @@
 pub mod NumberLaws
 pub mod GraphLaws
 pub mod SinkLaws
+pub mod SendingLaws
 pub mod LoadingLaws
 pub mod MemoryLaws
 pub mod WalkLaws

@@ -31,20 +31,47 @@ alone at c (d ∷ cs) dark darks =
     ∙ ap (with_byte at c) (alone (at + 1) d cs parts.0 parts.1)
     ∙ with_byte_joins at c (record { start = at + 1; text = d ∷ cs }) [] refl
 
+-- a token, a white byte behind it, and what follows
+one_token : (at : ℕ) (t : List ℕ) (w : ℕ) (rest : List ℕ) → is_token t ≡ true → is_white w ≡ true →
+    texts (tokens_at at (t ++ w ∷ rest)) ≡ t ∷ texts (tokens_at (at + length t + 1) rest)
+one_token at [] w rest is white = absurd (cc)
+one_token at (c ∷ cs) w rest is white =
+    let own : (is_dark c ≡ true) × (list_all is_dark cs ≡ true) = and_parts (is_dark c) (list_all is_dark cs) is in
+    let next : ℕ = at + length (c ∷ cs) + 1 in
+    let cut : tokens_at at ((c ∷ cs) ++ w ∷ rest) ≡ tokens_at at (c ∷ cs) ++ tokens_at next rest = tokens_at-append at (c ∷ cs) w rest next refl white in
+    ap texts (cut ∙ ap (λ ws. ws ++ tokens_at next rest) (alone at c cs own.0 own.1))
+
 -- one token a line is read as these tokens, from any place on
 pub texts-lines : (at : ℕ) (ts : List (List ℕ)) → list_all is_token ts ≡ true → texts (tokens_at at (flat_map line_of ts)) ≡ ts
 texts-lines at [] all = refl
-texts-lines at ([] ∷ ts) all = absurd (cc)
-texts-lines at ((c ∷ cs) ∷ ts) all =
-    let parts : (is_token (c ∷ cs) ≡ true) × (list_all is_token ts ≡ true) = and_parts (is_token (c ∷ cs)) (list_all is_token ts) all in
-    let own : (is_dark c ≡ true) × (list_all is_dark cs ≡ true) = and_parts (is_dark c) (list_all is_dark cs) parts.0 in
-    let next : ℕ = at + length (c ∷ cs) + 1 in
-    let grouped : (c ∷ cs) ++ 10 ∷ [] ++ flat_map line_of ts ≡ (c ∷ cs) ++ 10 ∷ flat_map line_of ts = append_assoc (c ∷ cs) (10 ∷ []) (flat_map line_of ts) in
-    let cut : tokens_at at ((c ∷ cs) ++ 10 ∷ flat_map line_of ts) ≡ tokens_at at (c ∷ cs) ++ tokens_at next (flat_map line_of ts) =
-    tokens_at-append at (c ∷ cs) 10 (flat_map line_of ts) next refl refl in
+texts-lines at (t ∷ ts) all =
+    let parts : (is_token t ≡ true) × (list_all is_token ts ≡ true) = and_parts (is_token t) (list_all is_token ts) all in
+    let grouped : t ++ 10 ∷ [] ++ flat_map line_of ts ≡ t ++ 10 ∷ flat_map line_of ts = append_assoc t (10 ∷ []) (flat_map line_of ts) in
     ap (λ bs. texts (tokens_at at bs)) grouped
-    ∙ ap texts (cut ∙ ap (λ ws. ws ++ tokens_at next (flat_map line_of ts)) (alone at c cs own.0 own.1))
-    ∙ ap (λ rest. (c ∷ cs) ∷ rest) (texts-lines next ts parts.1)
+    ∙ one_token at t 10 (flat_map line_of ts) parts.0 refl
+    ∙ ap (λ rest. t ∷ rest) (texts-lines (at + length t + 1) ts parts.1)
+
+-- a token and the white byte behind it
+pub record Parted : Type 0 where
+  pub token : List ℕ
+  pub white : ℕ
+
+abbrev pub is_parted : Parted → Bool
+is_parted p = is_token p.token && is_white p.white
+
+abbrev pub part_text : Parted → List ℕ
+part_text p = p.token ++ p.white ∷ []
+
+-- tokens with any white bytes between them are read as these tokens, from any place on
+pub texts-parts : (at : ℕ) (ps : List Parted) → list_all is_parted ps ≡ true → texts (tokens_at at (flat_map part_text ps)) ≡ map (λ p. p.token) ps
+texts-parts at [] all = refl
+texts-parts at (p ∷ ps) all =
+    let parts : (is_parted p ≡ true) × (list_all is_parted ps ≡ true) = and_parts (is_parted p) (list_all is_parted ps) all in
+    let own : (is_token p.token ≡ true) × (is_white p.white ≡ true) = and_parts (is_token p.token) (is_white p.white) parts.0 in
+    let grouped : (p.token ++ p.white ∷ []) ++ flat_map part_text ps ≡ p.token ++ p.white ∷ flat_map part_text ps = append_assoc p.token (p.white ∷ []) (flat_map part_text ps) in
+    ap (λ bs. texts (tokens_at at bs)) grouped
+    ∙ one_token at p.token p.white (flat_map part_text ps) own.0 own.1
+    ∙ ap (λ rest. p.token ∷ rest) (texts-parts (at + length p.token + 1) ps parts.1)
 
 digit_is_dark : (c : ℕ) → is_ascii_digit c ≡ true → is_dark c ≡ true
 digit_is_dark c h = grind (arith, common_steps)

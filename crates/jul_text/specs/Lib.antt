@@ -1,3 +1,4 @@
 pub mod Tokens
 pub mod Numerals
 pub mod Lines
+pub mod Scanning

@@ -1,0 +1,5 @@
+pub mod Forms
+pub mod Texts
+pub mod Lawful
+pub mod Reading
+pub mod Scanning

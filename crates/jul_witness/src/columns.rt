@@ -1,0 +1,141 @@
+//! The columns of a witness file.
+ghost use Rattle.std.specs.Prelude.{◌≡◌, ◌+◌, ◌*◌, ◌<◌, ◌≤◌, ◌^◌, length, Some, IfOk, IfErr, Err};
+ghost use Rattle.jul_text.specs.Tokens.{tokens};
+ghost use Rattle.jul_text.specs.Scanning.{text_at};
+ghost use Rattle.jul_witness.specs.Forms.{columns_of};
+ghost use Rattle.jul_witness.specs.Reading.{entry_of, all_tokens, column_of, read_tokens, Fails};
+ghost use Rattle.jul_witness.specs.Scanning.{IsClean};
+
+use crate::faults::{WitnessError, WitnessFault};
+use crate::forms::Form;
+use crate::scanning::{Place, next_entry};
+use std::alloc::Global;
+
+// For how many of `n` vertices with `width` numbers each to take room: a short file may ask for many
+// more than it has.
+#[inline]
+fn room(bytes: &[u8], place: Place, n: u64, width: usize) -> usize
+    requires { 0 < width }
+
+    ensures { result ≤ n }
+{
+    // Each number but the last takes a digit and a white byte.
+    let most = bytes.len().saturating_sub(place.at) / 2 / width + 1;
+    most.min(n as usize)
+}
+
+// The next two numbers.
+#[inline]
+fn next_pair(bytes: &[u8], place: Place, form: Form) -> Result<((u64, u64), Place), WitnessFault>
+    requires clean { IsClean form bytes.now place.at place.token }
+    requires behind { 2 ≤ place.token }
+    requires asked { place.token + 1 < all_tokens form (tokens bytes.now) }
+
+    ensures first { IfOk result (λ r.
+        entry_of form (text_at (tokens bytes.now) place.token) ≡ Some r.0.0) }
+    ensures second { IfOk result (λ r.
+        entry_of form (text_at (tokens bytes.now) (place.token + 1)) ≡ Some r.0.1) }
+    ensures next { IfOk result (λ r. IsClean form bytes.now r.1.at r.1.token) }
+    ensures token { IfOk result (λ r. r.1.token ≡ place.token + 2) }
+
+    ensures err { IfErr result (λ f. read_tokens (tokens bytes.now) (length bytes.now) ≡ Err f) }
+{
+    let (first, place) = next_entry(bytes, place, form)?;
+    let (second, place) = next_entry(bytes, place, form)?;
+    Ok(((first, second), place))
+}
+
+/// Two columns of n numbers each.
+pub(crate) fn read_pairs(
+    alloc: Global,
+    bytes: &[u8],
+    mut place: Place,
+    form: Form,
+    n: u64,
+) -> Result<((Vec<u64>, Vec<u64>), Place), WitnessError>
+    requires clean { IsClean form bytes.now place.at place.token }
+    requires start { place.token ≡ 2 }
+    requires columns { columns_of form ≡ 2 }
+    requires asked { all_tokens form (tokens bytes.now) ≡ 2 + 2 * n }
+
+    ensures first { IfOk result (λ r. r.0.0.items ≡ column_of form (tokens bytes.now) n 0) }
+    ensures second { IfOk result (λ r. r.0.1.items ≡ column_of form (tokens bytes.now) n 1) }
+    ensures next { IfOk result (λ r. IsClean form bytes.now r.1.at r.1.token) }
+    ensures token { IfOk result (λ r. r.1.token ≡ 2 + 2 * n) }
+
+    ensures err { IfErr result (λ e. Fails e (read_tokens (tokens bytes.now) (length bytes.now))) }
+{
+    let room = room(bytes, place, n, 2);
+    let mut firsts = Vec::with_capacity(alloc, room)?;
+    let mut seconds = Vec::with_capacity(alloc, room)?;
+    for _ in 0..n {
+        let ((first, second), next) = next_pair(bytes, place, form)?;
+        firsts.push(first)?;
+        seconds.push(second)?;
+        place = next;
+    }
+    Ok(((firsts, seconds), place))
+}
+
+// The next three numbers.
+#[inline]
+fn next_triple(
+    bytes: &[u8],
+    place: Place,
+    form: Form,
+) -> Result<((u64, u64, u64), Place), WitnessFault>
+    requires clean { IsClean form bytes.now place.at place.token }
+    requires behind { 2 ≤ place.token }
+    requires asked { place.token + 2 < all_tokens form (tokens bytes.now) }
+
+    ensures first { IfOk result (λ r.
+        entry_of form (text_at (tokens bytes.now) place.token) ≡ Some r.0.0) }
+    ensures second { IfOk result (λ r.
+        entry_of form (text_at (tokens bytes.now) (place.token + 1)) ≡ Some r.0.1) }
+    ensures third { IfOk result (λ r.
+        entry_of form (text_at (tokens bytes.now) (place.token + 2)) ≡ Some r.0.2) }
+    ensures next { IfOk result (λ r. IsClean form bytes.now r.1.at r.1.token) }
+    ensures token { IfOk result (λ r. r.1.token ≡ place.token + 3) }
+
+    ensures err { IfErr result (λ f. read_tokens (tokens bytes.now) (length bytes.now) ≡ Err f) }
+{
+    let (first, place) = next_entry(bytes, place, form)?;
+    let (second, place) = next_entry(bytes, place, form)?;
+    let (third, place) = next_entry(bytes, place, form)?;
+    Ok(((first, second, third), place))
+}
+
+/// Three columns of n numbers each.
+pub(crate) fn read_triples(
+    alloc: Global,
+    bytes: &[u8],
+    mut place: Place,
+    form: Form,
+    n: u64,
+) -> Result<((Vec<u64>, Vec<u64>, Vec<u64>), Place), WitnessError>
+    requires clean { IsClean form bytes.now place.at place.token }
+    requires start { place.token ≡ 2 }
+    requires columns { columns_of form ≡ 3 }
+    requires asked { all_tokens form (tokens bytes.now) ≡ 2 + 3 * n }
+
+    ensures first { IfOk result (λ r. r.0.0.items ≡ column_of form (tokens bytes.now) n 0) }
+    ensures second { IfOk result (λ r. r.0.1.items ≡ column_of form (tokens bytes.now) n 1) }
+    ensures third { IfOk result (λ r. r.0.2.items ≡ column_of form (tokens bytes.now) n 2) }
+    ensures next { IfOk result (λ r. IsClean form bytes.now r.1.at r.1.token) }
+    ensures token { IfOk result (λ r. r.1.token ≡ 2 + 3 * n) }
+
+    ensures err { IfErr result (λ e. Fails e (read_tokens (tokens bytes.now) (length bytes.now))) }
+{
+    let room = room(bytes, place, n, 3);
+    let mut firsts = Vec::with_capacity(alloc, room)?;
+    let mut seconds = Vec::with_capacity(alloc, room)?;
+    let mut thirds = Vec::with_capacity(alloc, room)?;
+    for _ in 0..n {
+        let ((first, second, third), next) = next_triple(bytes, place, form)?;
+        firsts.push(first)?;
+        seconds.push(second)?;
+        thirds.push(third)?;
+        place = next;
+    }
+    Ok(((firsts, seconds, thirds), place))
+}

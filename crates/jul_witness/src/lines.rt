@@ -1,0 +1,153 @@
+//! The parts of a text of a result: its first two lines, and a line for each vertex.
+ghost use Rattle.std.specs.Prelude.{◌≡◌, ◌^◌, ◌<◌, ◌≤◌, [], ◌∷◌, ◌++◌, length, OnOk, OnErr};
+ghost use Rattle.std.specs.List.{All};
+ghost use Rattle.jul_base.specs.declared.limits.TheConstants.{MAX_N};
+ghost use Rattle.jul_base.specs.Sinks.{FailedWriting, IsSent};
+ghost use Rattle.jul_text.specs.Lines.{line_of};
+ghost use Rattle.jul_witness.specs.Forms.{word_of};
+ghost use Rattle.jul_witness.specs.Texts.{value_text, values_line, head_lines, vertex_lines};
+
+use crate::forms::Form;
+use jul_base::{Failed, NONE, Sink, TextBlock};
+
+/// Puts the word and the number of vertices, each on a line.
+pub(crate) fn put_head<S: Sink>(
+    block: &mut TextBlock,
+    sink: &mut S,
+    form: Form,
+    n: usize,
+) -> Result<(), Failed>
+    requires { n ≤ MAX_N }
+
+    ensures ok { OnOk result (IsSent (S.state sink.old) (S.state sink.new) block.new
+        (block.old ++ head_lines (word_of form) n)) }
+    ensures err { OnErr result (FailedWriting (S.state sink.old) (S.state sink.new)
+        (block.old ++ head_lines (word_of form) n)) }
+    ensures faults { (S.state sink.old).faults ≤ (S.state sink.new).faults }
+{
+    block.put(sink, first_line(form))?;
+    put_value(block, sink, n as u64, b"\n")
+}
+
+fn first_line(form: Form) -> &'static [u8]
+    ensures { result.now ≡ line_of (word_of form) }
+{
+    match form {
+        Form::Cores => b"Cores\n",
+        Form::Distances => b"Distances\n",
+        Form::Cover => b"Cover\n",
+    }
+}
+
+/// Puts a line for each vertex, of its numbers in two columns.
+pub(crate) fn put_pairs<S: Sink>(
+    block: &mut TextBlock,
+    sink: &mut S,
+    first: &[u64],
+    second: &[u64],
+) -> Result<(), Failed>
+    requires { length second.now ≡ length first.now }
+
+    ensures ok { OnOk result (IsSent (S.state sink.old) (S.state sink.new) block.new
+        (block.old ++ vertex_lines (first.now ∷ second.now ∷ []) (length first.now))) }
+    ensures err { OnErr result (FailedWriting (S.state sink.old) (S.state sink.new)
+        (block.old ++ vertex_lines (first.now ∷ second.now ∷ []) (length first.now))) }
+    ensures faults { (S.state sink.old).faults ≤ (S.state sink.new).faults }
+    ensures first { All (λ x. x < 2 ^ 64) first.now }
+    ensures second { All (λ x. x < 2 ^ 64) second.now }
+{
+    for v in 0..first.len() {
+        put_pair(block, sink, first[v], second[v])?;
+    }
+    Ok(())
+}
+
+fn put_pair<S: Sink>(
+    block: &mut TextBlock,
+    sink: &mut S,
+    first: u64,
+    second: u64,
+) -> Result<(), Failed>
+    ensures ok { OnOk result (IsSent (S.state sink.old) (S.state sink.new) block.new
+        (block.old ++ values_line (first ∷ second ∷ []))) }
+    ensures err { OnErr result (FailedWriting (S.state sink.old) (S.state sink.new)
+        (block.old ++ values_line (first ∷ second ∷ []))) }
+    ensures faults { (S.state sink.old).faults ≤ (S.state sink.new).faults }
+{
+    put_value(block, sink, first, b" ")?;
+    put_value(block, sink, second, b"\n")
+}
+
+/// Puts a line for each vertex, of its numbers in three columns.
+pub(crate) fn put_triples<S: Sink>(
+    block: &mut TextBlock,
+    sink: &mut S,
+    first: &[u64],
+    second: &[u64],
+    third: &[u64],
+) -> Result<(), Failed>
+    requires second { length second.now ≡ length first.now }
+    requires third { length third.now ≡ length first.now }
+
+    ensures ok { OnOk result (IsSent (S.state sink.old) (S.state sink.new) block.new
+        (block.old ++ vertex_lines (first.now ∷ second.now ∷ third.now ∷ []) (length first.now))) }
+    ensures err { OnErr result (FailedWriting (S.state sink.old) (S.state sink.new)
+        (block.old ++ vertex_lines (first.now ∷ second.now ∷ third.now ∷ []) (length first.now))) }
+    ensures faults { (S.state sink.old).faults ≤ (S.state sink.new).faults }
+    ensures first { All (λ x. x < 2 ^ 64) first.now }
+    ensures second { All (λ x. x < 2 ^ 64) second.now }
+    ensures third { All (λ x. x < 2 ^ 64) third.now }
+{
+    for v in 0..first.len() {
+        put_triple(block, sink, first[v], second[v], third[v])?;
+    }
+    Ok(())
+}
+
+fn put_triple<S: Sink>(
+    block: &mut TextBlock,
+    sink: &mut S,
+    first: u64,
+    second: u64,
+    third: u64,
+) -> Result<(), Failed>
+    ensures ok { OnOk result (IsSent (S.state sink.old) (S.state sink.new) block.new
+        (block.old ++ values_line (first ∷ second ∷ third ∷ []))) }
+    ensures err { OnErr result (FailedWriting (S.state sink.old) (S.state sink.new)
+        (block.old ++ values_line (first ∷ second ∷ third ∷ []))) }
+    ensures faults { (S.state sink.old).faults ≤ (S.state sink.new).faults }
+{
+    put_value(block, sink, first, b" ")?;
+    put_pair(block, sink, second, third)
+}
+
+/// Puts a number, or a minus sign for `NONE`, and the bytes behind it.
+pub(crate) fn put_value<S: Sink>(
+    block: &mut TextBlock,
+    sink: &mut S,
+    value: u64,
+    end: &[u8],
+) -> Result<(), Failed>
+    ensures ok { OnOk result (IsSent (S.state sink.old) (S.state sink.new) block.new
+        (block.old ++ (value_text value ++ end.now))) }
+    ensures err { OnErr result (FailedWriting (S.state sink.old) (S.state sink.new)
+        (block.old ++ (value_text value ++ end.now))) }
+    ensures faults { (S.state sink.old).faults ≤ (S.state sink.new).faults }
+{
+    put_number(block, sink, value)?;
+    block.put(sink, end)
+}
+
+fn put_number<S: Sink>(block: &mut TextBlock, sink: &mut S, value: u64) -> Result<(), Failed>
+    ensures ok { OnOk result (IsSent (S.state sink.old) (S.state sink.new) block.new
+        (block.old ++ value_text value)) }
+    ensures err { OnErr result (FailedWriting (S.state sink.old) (S.state sink.new)
+        (block.old ++ value_text value)) }
+    ensures faults { (S.state sink.old).faults ≤ (S.state sink.new).faults }
+{
+    if value == NONE {
+        block.put(sink, b"-")
+    } else {
+        block.put_u64(sink, value)
+    }
+}

@@ -1,0 +1,115 @@
+//! From one token of a witness file to the next, each a number in its range.
+ghost use Rattle.std.specs.Prelude.{◌≡◌, ◌+◌, ◌-◌, ◌<◌, ◌≤◌, length, Some, IfOk, IfErr, OnOk, Ok, Err};
+ghost use Rattle.jul_base.specs.declared.limits.TheConstants.{NONE};
+ghost use Rattle.jul_text.specs.Tokens.{tokens};
+ghost use Rattle.jul_text.specs.Scanning.{text_at};
+ghost use Rattle.jul_witness.specs.Reading.{number_of, entry_of, fault_without, kind_at};
+ghost use Rattle.jul_witness.specs.Reading.{all_tokens, witness_of, read_tokens};
+ghost use Rattle.jul_witness.specs.Scanning.{IsClean};
+
+use crate::faults::{WitnessFault, WitnessKind};
+use crate::forms::{Form, has_dashes};
+use jul_base::NONE;
+use jul_text::{Numeral, next_token, read_number};
+
+/// A place between two tokens, and the number of the token behind it.
+#[derive(Clone, Copy)]
+pub(crate) struct Place {
+    pub(crate) at: usize,
+    pub(crate) token: usize,
+}
+
+/// A fault, its token and its byte place, as a file's first fault.
+pub(crate) fn fault(kind: WitnessKind, token: usize, at: usize) -> WitnessFault
+    ensures { result ≡ record { kind = kind; token = token; at = at } }
+{
+    WitnessFault {
+        kind,
+        token: token as u64,
+        at: at as u64,
+    }
+}
+
+// A token as a number up to a bound, a minus sign as `NONE` where it may stand.
+#[inline]
+fn number_up_to(token: &[u8], dash: bool, bound: u64) -> Option<u64>
+    ensures { result ≡ number_of dash bound token.now }
+{
+    if dash && token == b"-".as_slice() {
+        return Some(NONE);
+    }
+    match read_number(token, bound) {
+        Numeral::Value(value) => Some(value),
+        _ => None,
+    }
+}
+
+/// The next token as a number up to a bound.
+#[inline]
+pub(crate) fn next_value(
+    bytes: &[u8],
+    place: Place,
+    form: Form,
+    dash: bool,
+    bound: u64,
+) -> Result<(u64, Place), WitnessFault>
+    requires clean { IsClean form bytes.now place.at place.token }
+    requires role { kind_at form (tokens bytes.now) place.token
+        ≡ fault_without (number_of dash bound (text_at (tokens bytes.now) place.token)) }
+    requires asked { place.token < all_tokens form (tokens bytes.now) }
+
+    ensures value { IfOk result (λ r.
+        number_of dash bound (text_at (tokens bytes.now) place.token) ≡ Some r.0) }
+    ensures next { IfOk result (λ r. IsClean form bytes.now r.1.at r.1.token) }
+    ensures token { IfOk result (λ r. r.1.token ≡ place.token + 1) }
+
+    ensures err { IfErr result (λ f. read_tokens (tokens bytes.now) (length bytes.now) ≡ Err f) }
+{
+    let Some(token) = next_token(bytes, place.at) else {
+        return Err(fault(WitnessKind::Truncated, place.token, bytes.len()));
+    };
+    let Some(value) = number_up_to(&bytes[token.start..token.end], dash, bound) else {
+        return Err(fault(WitnessKind::Number, place.token, token.start));
+    };
+    let next = Place {
+        at: token.end,
+        token: place.token + 1,
+    };
+    Ok((value, next))
+}
+
+/// The next token as a number of a column.
+#[inline]
+#[tactic(auto, using(crate::proofs::RoleLaws::roles))]
+pub(crate) fn next_entry(
+    bytes: &[u8],
+    place: Place,
+    form: Form,
+) -> Result<(u64, Place), WitnessFault>
+    requires clean { IsClean form bytes.now place.at place.token }
+    requires behind { 2 ≤ place.token }
+    requires asked { place.token < all_tokens form (tokens bytes.now) }
+
+    ensures value { IfOk result (λ r. entry_of form (text_at (tokens bytes.now) place.token) ≡ Some r.0) }
+    ensures next { IfOk result (λ r. IsClean form bytes.now r.1.at r.1.token) }
+    ensures token { IfOk result (λ r. r.1.token ≡ place.token + 1) }
+
+    ensures err { IfErr result (λ f. read_tokens (tokens bytes.now) (length bytes.now) ≡ Err f) }
+{
+    next_value(bytes, place, form, has_dashes(form), NONE - 1)
+}
+
+/// Nothing more is to come: a token behind the last one is a fault.
+pub(crate) fn expect_end(bytes: &[u8], place: Place, form: Form) -> Result<(), WitnessFault>
+    requires clean { IsClean form bytes.now place.at place.token }
+    requires last { place.token ≡ all_tokens form (tokens bytes.now) }
+
+    ensures ok { OnOk result (read_tokens (tokens bytes.now) (length bytes.now)
+        ≡ Ok (witness_of form (tokens bytes.now))) }
+    ensures err { IfErr result (λ f. read_tokens (tokens bytes.now) (length bytes.now) ≡ Err f) }
+{
+    match next_token(bytes, place.at) {
+        Some(token) => Err(fault(WitnessKind::Trailing, place.token, token.start)),
+        None => Ok(()),
+    }
+}
