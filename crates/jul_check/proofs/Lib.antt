@@ -1,0 +1,14 @@
+pub mod VerdictLaws
+pub mod TestLaws
+pub mod MarkLaws
+pub mod CoreOrderLaws
+pub mod CoreCheckLaws
+pub mod CoreAcceptLaws
+pub mod CoverMarkLaws
+pub mod CoverCheckLaws
+pub mod PlaceLaws
+pub mod LoweringLaws
+pub mod TreeMarkLaws
+pub mod DistanceCheckLaws
+pub mod DistanceAcceptLaws
+pub mod DistanceCheckRows

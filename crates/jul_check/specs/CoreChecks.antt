@@ -20,10 +20,22 @@ level_of c v = slice_index c.level v
 abbrev pub is_before : Cores → ℕ → ℕ → Bool
 is_before c u v = nat_lt (level_of c u) (level_of c v) || ((level_of c u == level_of c v) && nat_lt u v)
 
+-- how many entries of a row lead to vertices whose core is at least that of v
+abbrev pub at_least : Cores → ℕ → List ℕ → ℕ
+at_least c v ws = count_by (λ w. nat_le (core_of c v) (core_of c w)) ws
+
+-- how many entries of a row lead to vertices that aren't before v
+abbrev pub not_before : Cores → ℕ → List ℕ → ℕ
+not_before c v ws = count_by (λ w. not (is_before c w v)) ws
+
+-- whether some vertex below n stands before v and has a greater core
+abbrev pub is_outranked : Cores → ℕ → ℕ → Bool
+is_outranked c n v = list_any (λ u. is_before c u v && nat_lt (core_of c v) (core_of c u)) (below n)
+
 abbrev pub fails_cores : RawGraph → Cores → ℕ → Reason → Bool
-fails_cores g c v reasons.LowerBound = nat_lt (count_by (λ w. nat_le (core_of c v) (core_of c w)) (row g v)) (core_of c v)
-fails_cores g c v reasons.UpperBound = nat_lt (core_of c v) (count_by (λ w. not (is_before c w v)) (row g v))
-fails_cores g c v reasons.Order = list_any (λ u. is_before c u v && nat_lt (core_of c v) (core_of c u)) (below (vertices g))
+fails_cores g c v reasons.LowerBound = nat_lt (at_least c v (row g v)) (core_of c v)
+fails_cores g c v reasons.UpperBound = nat_lt (core_of c v) (not_before c v (row g v))
+fails_cores g c v reasons.Order = is_outranked c (vertices g) v
 fails_cores g c v _ = false
 
 -- the reasons in the order in which they are tried

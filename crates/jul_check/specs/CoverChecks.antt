@@ -20,6 +20,10 @@ is_element g v = list_any (λ s. has (set_of g s) v) (below (vertices g))
 abbrev pub by_of : Cover → ℕ → ℕ
 by_of c v = slice_index c.by v
 
+-- whether v stands in the set that is said to cover it
+abbrev pub is_in_its_set : RawGraph → Cover → ℕ → Bool
+is_in_its_set g c v = nat_lt (by_of c v) (vertices g) && has (set_of g (by_of c v)) v
+
 abbrev pub fails_cover : RawGraph → Cover → ℕ → Reason → Bool
 fails_cover g c v reasons.NotCovered = is_element g v && (is_none (by_of c v) || not (nat_lt (by_of c v) (vertices g)))
 fails_cover g c v reasons.NotHeld = is_element g v && not (has (set_of g (by_of c v)) v)

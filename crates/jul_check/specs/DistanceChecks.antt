@@ -13,17 +13,24 @@ use Rattle.jul_check.specs.Verdicts.{is_none, verdict_by}
 abbrev pub places_of : RawGraph → ℕ → List ℕ
 places_of g v = range_with_len (row_start g v) (row_end g v - row_start g v)
 
--- a place of v leads to a vertex that has no number, or a greater one than along the place
+-- place p of v leads to a vertex that has no number, or a greater one than along p
+abbrev pub is_lowered : RawGraph → List ℕ → ℕ → ℕ → Bool
+is_lowered g dist v p =
+    is_none (slice_index dist (target g p)) || nat_lt (slice_index dist v + weight g p) (slice_index dist (target g p))
+
+-- some place of v lowers the number of its target
 abbrev pub is_lowerable : RawGraph → List ℕ → ℕ → Bool
-is_lowerable g dist v =
-    list_any (λ p. is_none (slice_index dist (target g p)) || nat_lt (slice_index dist v + weight g p) (slice_index dist (target g p))) (places_of g v)
+is_lowerable g dist v = list_any (is_lowered g dist v) (places_of g v)
+
+-- place p of u leads to v, and v's number is that along p
+abbrev pub is_tight : RawGraph → List ℕ → ℕ → ℕ → ℕ → Bool
+is_tight g dist u v p = (target g p == v) && (slice_index dist u + weight g p == slice_index dist v)
 
 -- u is a vertex with numbers, and one of its places ends a walk of v's distance and hops
 abbrev pub is_parent : RawGraph → Distances → ℕ → ℕ → Bool
 is_parent g d v u =
     nat_lt u (vertices g) && not (is_none (slice_index d.dist u)) && not (is_none (slice_index d.hops u))
-    && list_any (λ p. (target g p == v) && (slice_index d.dist u + weight g p == slice_index d.dist v)) (places_of g u)
-    && (slice_index d.hops u + 1 == slice_index d.hops v)
+    && list_any (is_tight g d.dist u v) (places_of g u) && (slice_index d.hops u + 1 == slice_index d.hops v)
 
 abbrev pub is_reached : Distances → ℕ → Bool
 is_reached d v = not (is_none (slice_index d.dist v))

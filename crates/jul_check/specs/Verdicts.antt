@@ -1,6 +1,6 @@
 -- The verdict on columns: the least vertex that fails a reason, and its first one.
-use Rattle.std.specs.Prelude.{ℕ, Bool, List, [], ◌∷◌, Option, Some, None, find, ◌==◌}
-use Rattle.std.specs.List.{filter_map}
+use Rattle.std.specs.Prelude.{ℕ, ◌-◌, Bool, List, [], ◌∷◌, Option, Some, None, find, ◌==◌}
+use Rattle.std.specs.List.{filter_map, range_with_len}
 use Rattle.jul_base.specs.declared.limits.TheConstants.{NONE}
 use Rattle.jul_base.specs.Numbers.{below}
 use Rattle.jul_check.specs.declared.verdicts.Reason.{Reason}
@@ -21,3 +21,7 @@ first_or_yes [] = Yes
 -- of the vertices below n, the least that fails a reason, and the first one of this order that it fails
 abbrev pub verdict_by : ℕ → List Reason → (ℕ → Reason → Bool) → Verdict
 verdict_by n order fails = first_or_yes (filter_map (λ v. refusal v (find (fails v) order)) (below n))
+
+-- the same of the vertices below n from v on
+abbrev pub verdict_from : ℕ → List Reason → (ℕ → Reason → Bool) → ℕ → Verdict
+verdict_from n order fails v = first_or_yes (filter_map (λ u. refusal u (find (fails u) order)) (range_with_len v (n - v)))

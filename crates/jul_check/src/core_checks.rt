@@ -1,18 +1,35 @@
 //! The check of cores.
-ghost use Rattle.std.specs.Prelude.{◌≡◌, ℕ, ◌<◌, length, slice_index, IfOk};
+//!
+//! Two bounds on each vertex by one pass over its row, and an order of all vertices: with the bounds, no list that holds
+//! a vertex can have more places into it than the vertex's core.
+ghost use Rattle.std.specs.Prelude.{◌≡◌, ℕ, ◌<◌, length, slice_index, find, All, IfOk};
+ghost use Rattle.jul_base.specs.Numbers.{IsColumn};
 ghost use Rattle.jul_base.specs.Graph.{vertices};
 ghost use Rattle.jul_base.specs.Coreness.{IsCoreness};
-ghost use Rattle.jul_check.specs.CoreChecks.{cores_verdict};
+ghost use Rattle.jul_base.specs.Levels.{IsLevel};
+ghost use Rattle.jul_check.specs.CoreChecks.{at_least, not_before};
+ghost use Rattle.jul_check.specs.CoreChecks.{fails_cores, core_reasons, cores_verdict};
 ghost use Rattle.jul_check.specs.declared.verdicts.Verdict.TheVariants.{Yes};
 
-use crate::verdicts::Verdict;
+use crate::core_order::mark_outranked;
+use crate::verdicts::{Reason, Verdict};
 use jul_base::Cores;
 use jul_rows::Rows;
 use std::alloc::{AllocError, Global};
 
+/// What the row of a vertex says of it.
+struct RowTally {
+    /// Places that lead to vertices of at least the core of this one.
+    at_least: u64,
+    /// Places that lead to vertices that aren't before this one.
+    not_before: u64,
+}
+
 /// Whether the columns are cores of the graph, or the least vertex that shows they are not.
 ///
-/// A yes implies that each number of `core` is the coreness of its vertex. Memory that runs out is the only refusal.
+/// A yes implies that each number of `core` is the coreness of its vertex. Corenesses with the rounds of peeling as
+/// levels are accepted. Memory that runs out is the only refusal.
+/// Takes memory for a pair and a mark a vertex.
 pub fn check_cores(alloc: Global, rows: &Rows, c: &Cores) -> Result<Verdict, AllocError>
     requires core { length c.now.core ≡ vertices rows.now }
     requires level { length c.now.level ≡ vertices rows.now }
@@ -20,6 +37,72 @@ pub fn check_cores(alloc: Global, rows: &Rows, c: &Cores) -> Result<Verdict, All
     ensures verdict { IfOk result (λ verdict. verdict ≡ cores_verdict rows.now c.now) }
     ensures sound { IfOk result (λ verdict. verdict ≡ Yes → (v : ℕ) → v < vertices rows.now →
         IsCoreness rows.now v (slice_index c.now.core v)) }
+    ensures accepts { IfOk result (λ verdict.
+        IsColumn (vertices rows.now) (IsCoreness rows.now) c.now.core →
+        IsColumn (vertices rows.now) (IsLevel rows.now) c.now.level → verdict ≡ Yes) }
 {
-    Err(AllocError)
+    let outranked = mark_outranked(alloc, c, rows.n())?;
+    for v in 0..rows.n() {
+        if let Some(reason) = first_reason(rows, c, v, outranked[v as usize]) {
+            return Ok(Verdict::No { vertex: v, reason });
+        }
+    }
+    Ok(Verdict::Yes)
 }
+
+/// The first reason that `v` fails, where it is known whether `v` is out of order.
+fn first_reason(rows: &Rows, c: &Cores, v: u32, is_outranked: bool) -> Option<Reason>
+    requires core { length c.now.core ≡ vertices rows.now }
+    requires level { length c.now.level ≡ vertices rows.now }
+    requires vertex { v < vertices rows.now }
+    requires order { is_outranked ≡ fails_cores rows.now c.now v Reason.Order }
+
+    ensures { result ≡ find (fails_cores rows.now c.now v) core_reasons }
+{
+    let core = c.core.get(v as usize);
+    let RowTally {
+        at_least,
+        not_before,
+    } = tally(c, rows.row(v), v);
+    if at_least < core {
+        Some(Reason::LowerBound)
+    } else if core < not_before {
+        Some(Reason::UpperBound)
+    } else if is_outranked {
+        Some(Reason::Order)
+    } else {
+        None
+    }
+}
+
+/// Both counts of the row of `v`.
+fn tally(c: &Cores, row: &[u32], v: u32) -> RowTally
+    requires row { All (λ w. w < length c.now.core) row.now }
+    requires level { length c.now.level ≡ length c.now.core }
+    requires vertex { v < length c.now.core }
+
+    ensures at_least { result.at_least ≡ at_least c.now v row.now }
+    ensures not_before { result.not_before ≡ not_before c.now v row.now }
+{
+    let core = c.core.get(v as usize);
+    let level = c.level.get(v as usize);
+    let mut at_least = 0;
+    let mut not_before = 0;
+    for w in row {
+        let at = *w as usize;
+        if core <= c.core.get(at) {
+            at_least += 1;
+        }
+        let there = c.level.get(at);
+        if !(there < level || (there == level && *w < v)) {
+            not_before += 1;
+        }
+    }
+    RowTally {
+        at_least,
+        not_before,
+    }
+}
+
+#[cfg(test)]
+mod tests;

@@ -1,19 +1,28 @@
 //! The check of distances with the tree that bears them out.
-ghost use Rattle.std.specs.Prelude.{◌≡◌, ◌<◌, length, IfOk};
-ghost use Rattle.jul_base.specs.Graph.{vertices};
+//!
+//! One pass over the places marks the vertices whose parents bear them out, another over vertices and places finds the
+//! first vertex that fails. No sum is made, so that none wraps: numbers are compared by what one is more than the other.
+ghost use Rattle.std.specs.Prelude.{◌≡◌, ◌+◌, ◌<◌, length, nat_lt, find, IfOk};
+ghost use Rattle.jul_base.specs.Graph.{vertices, IsLawful};
 ghost use Rattle.jul_base.specs.Distances.{AreDistances};
-ghost use Rattle.jul_check.specs.DistanceChecks.{distances_verdict};
+ghost use Rattle.jul_base.specs.Trees.{AreTree};
+ghost use Rattle.jul_check.specs.DistanceChecks.{is_lowerable, is_parent};
+ghost use Rattle.jul_check.specs.DistanceChecks.{fails_distances, distance_reasons, distances_verdict};
+ghost use Rattle.jul_check.specs.Marks.{AreMarks};
+ghost use Rattle.jul_check.specs.TreeMarks.{parent_of};
 ghost use Rattle.jul_check.specs.declared.verdicts.Verdict.TheVariants.{Yes};
 
-use crate::verdicts::Verdict;
-use jul_base::Distances;
+use crate::tree_marks::mark_tree;
+use crate::verdicts::{Reason, Verdict};
+use jul_base::{Distances, NONE};
 use jul_rows::Rows;
 use std::alloc::{AllocError, Global};
 
 /// Whether the columns are distances from the source with hops and parents that bear them out, or the least vertex
 /// that shows they are not.
 ///
-/// A yes implies that each number of `dist` is the least distance of its vertex. Memory that runs out is the only refusal.
+/// A yes implies that each number of `dist` is the least distance of its vertex. Distances with the least hops and the
+/// least parents are accepted. Memory that runs out is the only refusal.
 pub fn check_distances(
     alloc: Global,
     rows: &Rows,
@@ -27,6 +36,95 @@ pub fn check_distances(
 
     ensures verdict { IfOk result (λ verdict. verdict ≡ distances_verdict rows.now source d.now) }
     ensures sound { IfOk result (λ verdict. verdict ≡ Yes → AreDistances rows.now source d.now.dist) }
+    ensures accepts { IfOk result (λ verdict.
+        AreTree rows.now source d.now.dist d.now.hops d.now.parent → verdict ≡ Yes) }
 {
-    Err(AllocError)
+    let marks = mark_tree(alloc, rows, d)?;
+    Ok(first_failing(rows, source, d, marks.as_slice()))
 }
+
+/// The least vertex that fails and its first reason, where `marks` tells which parents bear their children out.
+fn first_failing(rows: &Rows, source: u32, d: &Distances, marks: &[bool]) -> Verdict
+    requires dist { length d.now.dist ≡ vertices rows.now }
+    requires hops { length d.now.hops ≡ vertices rows.now }
+    requires parent { length d.now.parent ≡ vertices rows.now }
+    requires marks { AreMarks (vertices rows.now)
+        (λ v. is_parent rows.now d.now v (parent_of d.now v)) marks.now }
+
+    ensures verdict { result ≡ distances_verdict rows.now source d.now }
+    ensures lawful { IsLawful rows.now }
+{
+    for v in 0..rows.n() {
+        if let Some(reason) = first_reason(rows, source, d, v, marks[v as usize]) {
+            return Verdict::No { vertex: v, reason };
+        }
+    }
+    Verdict::Yes
+}
+
+/// The first reason that `v` fails, where `mark` tells whether its parent bears it out.
+fn first_reason(rows: &Rows, source: u32, d: &Distances, v: u32, mark: bool) -> Option<Reason>
+    requires lawful { IsLawful rows.now }
+    requires vertex { v < vertices rows.now }
+    requires dist { length d.now.dist ≡ vertices rows.now }
+    requires hops { length d.now.hops ≡ vertices rows.now }
+    requires parent { length d.now.parent ≡ vertices rows.now }
+    requires mark { mark ≡ is_parent rows.now d.now v (parent_of d.now v) }
+
+    ensures { result ≡ find (fails_distances rows.now source d.now v) distance_reasons }
+{
+    let at = v as usize;
+    let is_source = v == source;
+    let (dist, hops, parent) = (d.dist.get(at), d.hops.get(at), d.parent.get(at));
+    if is_source && !(dist == 0 && hops == 0 && parent == NONE) {
+        return Some(Reason::Source);
+    }
+    if dist == NONE {
+        let is_unreached = hops == NONE && parent == NONE;
+        return if is_source || is_unreached {
+            None
+        } else {
+            Some(Reason::Unreached)
+        };
+    }
+    if is_lowerable(rows, d.dist.as_slice(), v) {
+        return Some(Reason::Lowerable);
+    }
+    let has_parent = hops != NONE && parent != NONE && mark;
+    if is_source || has_parent {
+        None
+    } else {
+        Some(Reason::Parent)
+    }
+}
+
+/// Whether some place of `v` leads to a vertex without a number, or with a greater one than along the place.
+fn is_lowerable(rows: &Rows, dist: &[u64], v: u32) -> bool
+    requires lawful { IsLawful rows.now }
+    requires vertex { v < vertices rows.now }
+    requires size { length dist.now ≡ vertices rows.now }
+
+    ensures { result ≡ is_lowerable rows.now dist.now v }
+{
+    let number = dist[v as usize];
+    let mut place = rows.first_place(v);
+    for w in rows.row(v) {
+        let there = dist[*w as usize];
+        if there == NONE || exceeds(there, number, rows.weight(place)) {
+            return true;
+        }
+        place += 1;
+    }
+    false
+}
+
+/// Whether `there` is greater than the sum of `number` and `weight`, which may exceed what a word holds.
+#[inline]
+fn exceeds(there: u64, number: u64, weight: u32) -> bool
+    ensures { result ≡ nat_lt (number + weight) there }
+{
+    number < there && there - number > weight as u64
+}
+
+#[cfg(test)]
+mod tests;

@@ -6,11 +6,17 @@
 #![tactic(auto)]
 
 mod core_checks;
+mod core_order;
 mod cover_checks;
+mod cover_marks;
 mod distance_checks;
+mod tree_marks;
 mod verdicts;
 
 pub use core_checks::check_cores;
 pub use cover_checks::check_cover;
 pub use distance_checks::check_distances;
 pub use verdicts::{Reason, Verdict};
+
+#[cfg(test)]
+mod test_graphs;
