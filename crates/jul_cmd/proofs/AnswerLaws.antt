@@ -1,30 +1,25 @@
 -- The answer of a run, from what its parts found.
-use Rattle.std.proofs.Common.{◌≡◌, ◌⊎◌, ℕ, ◌≤◌, Bool, List, [], ◌∷◌, Option, Some, None, Result, Ok, Err, IfSome, IfOk, refl, sym, ◌∙◌, subst, ap, inl, inr}
+use Rattle.std.proofs.Common.{◌≡◌, ℕ, ◌≤◌, List, [], ◌∷◌, Option, Some, None, Result, Ok, Err, IfSome, IfOk, refl, sym, ◌∙◌, subst, ap, inl, inr}
 use Rattle.std.specs.List.{All}
 use Rattle.std.specs.Option.{option_map, IsSomeAnd}
 use Rattle.std.specs.Result.{IfErr}
 use Rattle.std.proofs.lemmas.List.Elements.{All-head, All-tail}
 use Rattle.jul_base.specs.declared.graphs.RawGraph.{RawGraph}
-use Rattle.jul_base.specs.Graph.{vertices}
-use Rattle.jul_base.specs.Sinks.{SinkState, Rose, Appended}
+use Rattle.jul_base.specs.Sinks.{SinkState}
 use Rattle.jul_base.specs.Shelves.{ShelfState, Told, File, IsMissing, contents, known_name, after_open, files_and_last}
 use Rattle.jul_base.specs.Loading.{FailedLoading}
-use Rattle.jul_base.proofs.SinkLaws.{Appended-none, Rose-after}
+use Rattle.jul_base.proofs.SinkLaws.{Rose-after}
 use Rattle.jul_witness.specs.declared.faults.WitnessFault.{WitnessFault as Fault}
 use Rattle.jul_witness.specs.declared.witnesses.Witness.{Witness}
-use Rattle.jul_witness.specs.Texts.{bare_text}
 use Rattle.jul_check.specs.declared.verdicts.Verdict.{Verdict}
 use Rattle.jul_check.specs.declared.verdicts.Verdict.TheVariants as verdicts
 use Rattle.jul_cmd.specs.declared.statuses.Status.{Status}
-use Rattle.jul_cmd.specs.declared.statuses.Status.TheVariants.{Done, No, Usage, GraphFault, WitnessFault, SourceRange, SizeDiffers, ReadFault, WriteFault, Memory}
-use Rattle.jul_cmd.specs.declared.statuses.Which.{Which}
+use Rattle.jul_cmd.specs.declared.statuses.Status.TheVariants.{Done, Usage, GraphFault, WitnessFault, ReadFault, WriteFault, Memory}
 use Rattle.jul_cmd.specs.declared.statuses.Which.TheVariants as which
-use Rattle.jul_cmd.specs.declared.replies.Reply.{Reply}
-use Rattle.jul_cmd.specs.declared.replies.Reply.TheVariants.{Bare, Checked}
-use Rattle.jul_cmd.specs.Queries.{Work, distances, check, Asked, asked}
-use Rattle.jul_cmd.specs.Answers.{graph_of_file, IsFile, IsOutside, IsDistanceText, IsTold, IsBorneOut, judged_file, IsChecked, verdict_status, verdict_text, WorkAnswer, GraphAnswer, Answer}
-use Rattle.jul_cmd.specs.Outcomes.{IsOpenedLast, IsTooLong, last_of_work, last_file, names_of_work, IsAnswer, Answered, HasGraph, FailedWitness, FailedReading, HasCause, MayWrite, IsUntroubled, IsComplete}
-use Rattle.jul_cmd.specs.Parts.{IsWitnessRefusal, IsRefusal, GraphRead, WitnessRead, IsUnread, Judges, HasJudged, IsUnjudged, status_of, text_of, IsRefused}
+use Rattle.jul_cmd.specs.Queries.{check, Asked}
+use Rattle.jul_cmd.specs.Answers.{IsFile, IsTold, IsBorneOut, judged_file, IsChecked, verdict_status, verdict_text, WorkAnswer, GraphAnswer, Answer}
+use Rattle.jul_cmd.specs.Outcomes.{IsOpenedLast, last_of_work, last_file, names_of_work, IsAnswer, HasGraph, HasCause, IsUntroubled, IsComplete}
+use Rattle.jul_cmd.specs.Parts.{IsWitnessRefusal, IsRefusal, GraphRead, WitnessRead, IsUnread, Judges, HasJudged, IsUnjudged, IsRefused}
 
 -- ---- a file that is opened after another
 
@@ -34,7 +29,6 @@ files_kept None None name e = refl
 files_kept None (Some u) name e = cc
 files_kept (Some t) None name e = cc
 files_kept (Some t) (Some u) name e = ap (option_map (λ (x : List File × Option (List ℕ)). x.0)) e
-
 
 IsFile-before : (a b : ShelfState) (first name file : List ℕ) → IsOpenedLast a b first → IsFile b name file → IsFile a name file
 IsFile-before a b first name file e h = go a.told b.told (files_kept a.told b.told first e) h where
@@ -76,27 +70,6 @@ graph_answer : (query : Asked) (shelf : ShelfState) (g : RawGraph) (status : Sta
 graph_answer query shelf g status text h said =
     record { file = h.file; there = h.there; answer = subst (λ r. GraphAnswer shelf query.work r status text) (sym h.lawful) said }
 
--- the distances of a graph that was read
-pub search_found : (query : Asked) (a b : ShelfState) (g : RawGraph) (source : ℕ) (column : List ℕ) → query.work ≡ distances source → GraphRead a b query.graph g → IsDistanceText g source Done (bare_text column) →
-    IsAnswer query a b Done (bare_text column)
-search_found query a b g source column work read found = record {
-  answer = graph_answer query a g Done (bare_text column) read.has_graph (subst (λ w. WorkAnswer a g w Done (bare_text column)) (sym work) (inr found));
-  last = subst (λ w. IsOpenedLast a b (last_of_work w query.graph)) (sym work) read.read.last;
-  to_end = λ long. read.read.to_end;
-}
-
-pub search_refused : (query : Asked) (a b : ShelfState) (g : RawGraph) (source : ℕ) (status : Status) → query.work ≡ distances source → GraphRead a b query.graph g →
-    IsOutside g source status [] ⊎ (status ≡ Memory) → IsRefused query a b status
-search_refused query a b g source status work read (inr memory) = inr (inr memory)
-search_refused query a b g source status work read (inl o) =
-    let outside : IsOutside g source (SourceRange source (vertices g)) [] = record { outside = o.outside; refusal = refl; nothing = refl } in
-    let answer : IsAnswer query a b (SourceRange source (vertices g)) [] = record {
-      answer = graph_answer query a g (SourceRange source (vertices g)) [] read.has_graph (subst (λ w. WorkAnswer a g w (SourceRange source (vertices g)) []) (sym work) (inl outside));
-      last = subst (λ w. IsOpenedLast a b (last_of_work w query.graph)) (sym work) read.read.last;
-      to_end = λ long. read.read.to_end;
-    } in
-    subst (IsRefused query a b) (sym o.refusal) (inl (tt, answer))
-
 -- ---- the check
 
 has_judged : (a b : ShelfState) (g : RawGraph) (name : List ℕ) (source : ℕ) (w : Witness) (said : Result Verdict Status) (status : Status) (text : List ℕ) → WitnessRead a b name w →
@@ -137,22 +110,21 @@ pub unread_refused : (a b : ShelfState) (g : RawGraph) (name : List ℕ) (source
 unread_refused a b g name source status (inr unloaded) = inr unloaded
 unread_refused a b g name source status (inl f) =
     let refusal : IsWitnessRefusal status = subst IsWitnessRefusal (sym f.refusal) tt in
-    inl (refusal, record {
-      checked = record {
-        file = f.file;
-        there = f.there;
-        told = subst (λ r. IsTold (judged_file g source r) status []) (sym f.faulty) (fault_is_told g source f.fault status f.refusal);
-        sound = λ done. absurd (subst IsWitnessRefusal done refusal);
-      };
-      last = f.last;
-      to_end = f.to_end;
-    })
+    inl (
+      refusal,
+      record {
+        checked = record {
+          file = f.file;
+          there = f.there;
+          told = subst (λ r. IsTold (judged_file g source r) status []) (sym f.faulty) (fault_is_told g source f.fault status f.refusal);
+          sound = λ done. absurd (subst IsWitnessRefusal done refusal);
+        };
+        last = f.last;
+        to_end = f.to_end;
+      },
+    )
 
 -- the file opened last is the witness, unless the graph has a fault
-verdict_last : (query : Asked) (v : Verdict) → last_file query (verdict_status v) ≡ last_of_work query.work query.graph
-verdict_last query verdicts.Yes = refl
-verdict_last query (verdicts.No vertex reason) = refl
-
 refusal_last : (query : Asked) (status : Status) → IsWitnessRefusal status → last_file query status ≡ last_of_work query.work query.graph
 refusal_last query (GraphFault fault) h = absurd h
 refusal_last query status h = refl
@@ -177,69 +149,24 @@ check_answer query a b c g name source status text work read last judged =
       to_end = judged.to_end;
     }
 
-pub check_found : (query : Asked) (a b c : ShelfState) (g : RawGraph) (name : List ℕ) (source : ℕ) (v : Verdict) → query.work ≡ check name source → GraphRead a b query.graph g →
-    HasJudged b c g name source (verdict_status v) (verdict_text v) → IsAnswer query a c (verdict_status v) (verdict_text v)
-check_found query a b c g name source v work read judged = check_answer query a b c g name source (verdict_status v) (verdict_text v) work read (verdict_last query v) judged
-
 pub check_refused : (query : Asked) (a b c : ShelfState) (g : RawGraph) (name : List ℕ) (source : ℕ) (status : Status) → query.work ≡ check name source → a.faults ≤ b.faults → GraphRead a b query.graph g →
     IsUnjudged b c g name source status → IsRefused query a c status
 check_refused query a b c g name source status work le read (inl h) =
     inl (is_refusal status h.0, check_answer query a b c g name source status [] work read (refusal_last query status h.0) h.1)
 check_refused query a b c g name source status work le read (inr (inr memory)) = inr (inr memory)
 check_refused query a b c g name source status work le read (inr (inl h)) =
-    inr (inl (which.Witness, h.0, record {
-      graph = g;
-      has_graph = read.has_graph;
-      name = name;
-      source = source;
-      checks = work;
-      failed = FailedLoading-then a b c query.graph name le read.read.last h.1;
-    }))
-
--- ---- what each status means
-
--- a status that only an answer has
-abbrev IsSaid : Status → Type 0
-IsSaid Usage = ⊥
-IsSaid (ReadFault file) = ⊥
-IsSaid WriteFault = ⊥
-IsSaid Memory = ⊥
-IsSaid status = Unit {0}
-
-refusal_said : (status : Status) → IsRefusal status → IsSaid status
-refusal_said Usage h = h
-refusal_said (ReadFault file) h = h
-refusal_said WriteFault h = h
-refusal_said Memory h = h
-refusal_said status h = tt
-
-reply_said : (reply : Reply) → IsSaid (status_of reply)
-reply_said (Bare column) = tt
-reply_said (Checked verdicts.Yes) = tt
-reply_said (Checked (verdicts.No vertex reason)) = tt
-
-said_cause : (words : List (List ℕ)) (a b : ShelfState) (out out' : SinkState) (status : Status) → IsSaid status → Answered words a b out out' status → HasCause words a b out out' status
-said_cause words a b out out' Usage h answered = absurd h
-said_cause words a b out out' (ReadFault file) h answered = absurd h
-said_cause words a b out out' WriteFault h answered = absurd h
-said_cause words a b out out' Memory h answered = absurd h
-said_cause words a b out out' status h answered = answered
-
-pub refused_cause : (words : List (List ℕ)) (query : Asked) (a b : ShelfState) (out : SinkState) (status : Status) → asked words ≡ Some query → IsRefused query a b status → HasCause words a b out out status
-refused_cause words query a b out status taken (inl h) =
-    said_cause words a b out out status (refusal_said status h.0) (record { query = query; taken = taken; text = []; answer = h.1; whole = Appended-none out out refl })
-refused_cause words query a b out status taken (inr (inl h)) = subst (HasCause words a b out out) (sym h.1) (query, taken, h.2)
-refused_cause words query a b out status taken (inr (inr memory)) = subst (HasCause words a b out out) (sym memory) (query, taken)
-
-pub reply_cause : (words : List (List ℕ)) (query : Asked) (a b : ShelfState) (out out' : SinkState) (reply : Reply) → asked words ≡ Some query → IsAnswer query a b (status_of reply) (text_of reply) →
-    Appended out out' (text_of reply) → HasCause words a b out out' (status_of reply)
-reply_cause words query a b out out' reply taken answer whole =
-    said_cause words a b out out' (status_of reply) (reply_said reply) (record { query = query; taken = taken; text = text_of reply; answer = answer; whole = whole })
-
-pub reply_may_write : (reply : Reply) → MayWrite (status_of reply)
-reply_may_write (Bare column) = tt
-reply_may_write (Checked verdicts.Yes) = tt
-reply_may_write (Checked (verdicts.No vertex reason)) = tt
+    inr (inl (
+      which.Witness,
+      h.0,
+      record {
+        graph = g;
+        has_graph = read.has_graph;
+        name = name;
+        source = source;
+        checks = work;
+        failed = FailedLoading-then a b c query.graph name le read.read.last h.1;
+      },
+    ))
 
 -- ---- where nothing goes wrong outside
 

@@ -8,7 +8,7 @@ use Rattle.jul_base.specs.Loading.{FailedLoading}
 use Rattle.jul_adj.specs.declared.faults.FaultKind.TheVariants as graph_kinds
 use Rattle.jul_witness.specs.declared.faults.WitnessKind.TheVariants as witness_kinds
 use Rattle.jul_cmd.specs.declared.statuses.Status.{Status}
-use Rattle.jul_cmd.specs.declared.statuses.Status.TheVariants.{Done, No, Usage, GraphFault, WitnessFault, SourceRange, SizeDiffers, ReadFault, WriteFault, Memory}
+use Rattle.jul_cmd.specs.declared.statuses.Status.TheVariants.{Done, No, Usage, GraphFault, WitnessFault, ReadFault, WriteFault, Memory}
 use Rattle.jul_cmd.specs.declared.statuses.Which.{Which}
 use Rattle.jul_cmd.specs.declared.statuses.Which.TheVariants.{Graph, Witness}
 use Rattle.jul_cmd.specs.Queries.{Work, distances, check, Asked, asked}

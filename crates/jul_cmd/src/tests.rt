@@ -11,7 +11,9 @@ const TWO_WAYS: &str = "WeightedAdjacencyGraph\r\n3 3\r\n0 2 2\t1 2 1\n5 1 2";
 const TRIANGLE: &str = "AdjacencyGraph 4 8 0 2 4 7 1 2 0 2 0 1 3 2";
 /// One edge, and a vertex that isn't reached.
 const APART: &str = "AdjacencyGraph 3 1 0 1 1 1";
+
 const LOOP: &str = "AdjacencyGraph 1 1 0 0";
+
 const NOTHING: &str = "AdjacencyGraph\n0\n0\n";
 /// Two edges of no weight between 1 and 2, and one of weight 5 from 0.
 const NO_WEIGHTS: &str = "WeightedAdjacencyGraph 3 3 0 1 2 1 2 1 5 0 0";
@@ -101,14 +103,50 @@ fn least_distances_are_written(rt: HostRuntime) -> Result<(), Fail> {
 fn witnesses_are_judged(rt: HostRuntime) -> Result<(), Fail> {
     for (source, graph, witness, code, text) in [
         ("0", TRIANGLE, "Cores\n4\n2 1\n2 1\n2 1\n1 0\n", 0, "yes\n"),
-        ("0", TRIANGLE, "Cores 4 2 1 2 1 2 1 2 0", 1, "no 3 LowerBound\n"),
-        ("0", TRIANGLE, "Cores 4 0 0 0 0 0 0 0 0", 1, "no 0 UpperBound\n"),
+        (
+            "0",
+            TRIANGLE,
+            "Cores 4 2 1 2 1 2 1 2 0",
+            1,
+            "no 3 LowerBound\n",
+        ),
+        (
+            "0",
+            TRIANGLE,
+            "Cores 4 0 0 0 0 0 0 0 0",
+            1,
+            "no 0 UpperBound\n",
+        ),
         ("9", LOOP, "Cores 1 1 7", 0, "yes\n"),
-        ("0", NO_WEIGHTS, "Distances 3 0 0 - 3 1 2 3 2 1", 1, "no 1 Parent\n"),
-        ("0", APART, "Distances 3 0 0 - 1 1 0 - - 1", 1, "no 2 Unreached\n"),
+        (
+            "0",
+            NO_WEIGHTS,
+            "Distances 3 0 0 - 3 1 2 3 2 1",
+            1,
+            "no 1 Parent\n",
+        ),
+        (
+            "0",
+            APART,
+            "Distances 3 0 0 - 1 1 0 - - 1",
+            1,
+            "no 2 Unreached\n",
+        ),
         ("1", TWO_WAYS, "Distances 3 - - - 0 0 - - - -", 0, "yes\n"),
-        ("0", TWO_SETS, "Cover\n5\n0 -\n0 -\n- 0\n- 0\n- 1\n", 0, "yes\n"),
-        ("0", TWO_SETS, "Cover 5 0 - 0 - - 0 - 0 - 0", 1, "no 4 NotHeld\n"),
+        (
+            "0",
+            TWO_SETS,
+            "Cover\n5\n0 -\n0 -\n- 0\n- 0\n- 1\n",
+            0,
+            "yes\n",
+        ),
+        (
+            "0",
+            TWO_SETS,
+            "Cover 5 0 - 0 - - 0 - 0 - 0",
+            1,
+            "no 4 NotHeld\n",
+        ),
         ("0", NOTHING, "Cover 0", 0, "yes\n"),
     ] {
         let words = ["check", "g", "w", "--source", source];
@@ -146,13 +184,37 @@ fn each_refusal_has_its_line(rt: HostRuntime) -> Result<(), Fail> {
 #[test]
 fn each_refusal_of_a_witness_has_its_line(rt: HostRuntime) -> Result<(), Fail> {
     for (name, graph, witness, code, line) in [
-        ("w", LOOP, "Cores 1 x 0", 3, "witness: Number at token 2, byte 8\n"),
-        ("w", LOOP, "Cores 1 - 0", 3, "witness: Number at token 2, byte 8\n"),
-        ("w", TRIANGLE, "Cores 0", 4, "witness size 0, graph size 4\n"),
+        (
+            "w",
+            LOOP,
+            "Cores 1 x 0",
+            3,
+            "witness: Number at token 2, byte 8\n",
+        ),
+        (
+            "w",
+            LOOP,
+            "Cores 1 - 0",
+            3,
+            "witness: Number at token 2, byte 8\n",
+        ),
+        (
+            "w",
+            TRIANGLE,
+            "Cores 0",
+            4,
+            "witness size 0, graph size 4\n",
+        ),
         ("w", NOTHING, "Distances 0", 4, "source 0 is not below 0\n"),
         ("g", LOOP, "", 3, "witness: Header at token 0, byte 0\n"),
         ("x", LOOP, "", 5, "read fault: witness\n"),
-        ("x", "AdjacencyGraph 1 0", 3, "graph: Truncated at token 3, byte 18\n"),
+        (
+            "x",
+            "AdjacencyGraph 1 0",
+            "",
+            3,
+            "graph: Truncated at token 3, byte 18\n",
+        ),
     ] {
         let words = ["check", "g", name];
         let files = [("g", graph), ("w", witness)];

@@ -1,6 +1,4 @@
-use Rattle.std.proofs.Common.{◌≡◌, sym, ◌∙◌, ap, inl}
-use Rattle.jul_cmd.specs.declared.statuses.Status.TheVariants.{SizeDiffers}
-use Rattle.jul_cmd.specs.Answers.{size_of}
+use Rattle.std.proofs.Common.{sym, ◌∙◌, inl}
 use Rattle.jul_cmd.proofs.VerdictLaws.{judged_file-size, judges_file}
 use Rattle.jul_cmd.proofs.checking.judge.Goals as goal
 

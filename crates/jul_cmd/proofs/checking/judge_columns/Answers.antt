@@ -1,4 +1,4 @@
-use Rattle.std.proofs.Common.{◌≡◌, Ok, sym, ◌∙◌, ap, subst, inl, arith}
+use Rattle.std.proofs.Common.{Ok, sym, ◌∙◌, ap, subst, inl, arith}
 use Rattle.jul_check.specs.declared.verdicts.Verdict.{Verdict}
 use Rattle.jul_witness.specs.declared.witnesses.Witness.{Witness}
 use Rattle.jul_cmd.specs.Answers.{IsBorneOut}
