@@ -1,7 +1,7 @@
 """An independent implementation of what the program answers, written from the documents alone.
 
-It shares no code with the crates: the file is split with a regular expression, the numbers are Python's, and the
-distances are found by Dijkstra's search with a heap.
+It shares no code with the crates: the files are split with a regular expression, the numbers are Python's, the
+distances are found by Dijkstra's search with a heap, and each reason of a checker is tried at each vertex as it is worded.
 """
 import heapq
 import re
@@ -16,35 +16,48 @@ USAGE = (
 class Fault(Exception):
     def __init__(self, kind, token, at):
         super().__init__(kind)
-        self.line = b"graph: %s at token %d, byte %d\n" % (kind.encode(), token, at)
+        self.place = b"%s at token %d, byte %d\n" % (kind.encode(), token, at)
 
 
 def is_number(token):
     return re.fullmatch(rb"[0-9]+", token) is not None
 
 
+class Tokens:
+    """The tokens of a text, taken one after another, and the faults of the one taken last."""
+
+    def __init__(self, text):
+        self.tokens = [(m.group(), m.start()) for m in re.finditer(rb"[^ \t\r\n]+", text)]
+        self.length = len(text)
+        self.position = 0
+
+    def take(self):
+        if self.position == len(self.tokens):
+            raise Fault("Truncated", self.position, self.length)
+        self.position += 1
+        return self.tokens[self.position - 1][0]
+
+    def fault(self, kind):
+        return Fault(kind, self.position - 1, self.tokens[self.position - 1][1])
+
+    def end(self):
+        if self.position < len(self.tokens):
+            self.position += 1
+            raise self.fault("Trailing")
+
+
 def read_graph(text):
     """The rows of a graph file as lists of (target, weight), or its first fault."""
-    tokens = [(m.group(), m.start()) for m in re.finditer(rb"[^ \t\r\n]+", text)]
-    position = 0
-
-    def take():
-        nonlocal position
-        if position == len(tokens):
-            raise Fault("Truncated", position, len(text))
-        position += 1
-        return tokens[position - 1]
-
-    def fault(kind):
-        return Fault(kind, position - 1, tokens[position - 1][1])
+    tokens = Tokens(text)
+    fault = tokens.fault
 
     def number():
-        token, _ = take()
+        token = tokens.take()
         if not is_number(token):
             raise fault("BadNumber")
         return int(token)
 
-    header, _ = take()
+    header = tokens.take()
     if header not in (b"AdjacencyGraph", b"WeightedAdjacencyGraph"):
         raise fault("Header")
     n = number()
@@ -72,7 +85,7 @@ def read_graph(text):
     weights = [1] * m
     if header.startswith(b"Weighted"):
         for index in range(m):
-            token, _ = take()
+            token = tokens.take()
             if re.fullmatch(rb"-[0-9]+", token):
                 raise fault("NegativeWeight")
             if not is_number(token):
@@ -80,9 +93,7 @@ def read_graph(text):
             if int(token) > MAX_W:
                 raise fault("WeightRange")
             weights[index] = int(token)
-    if position < len(tokens):
-        position += 1
-        raise fault("Trailing")
+    tokens.end()
     ends = offsets[1:] + [m]
     return [list(zip(targets[a:b], weights[a:b])) for a, b in zip(offsets, ends)]
 
@@ -101,6 +112,97 @@ def distances(rows, source):
     return found
 
 
+COLUMNS = {b"Cores": 2, b"Distances": 3, b"Cover": 2}
+
+
+def read_witness(text):
+    """The word of a witness and its rows of numbers, None for a dash, or its first fault."""
+    tokens = Tokens(text)
+    word = tokens.take()
+    if word not in COLUMNS:
+        raise tokens.fault("Header")
+
+    def number(token, bound):
+        if not is_number(token) or int(token) > bound:
+            raise tokens.fault("Number")
+        return int(token)
+
+    def entry():
+        token = tokens.take()
+        if token == b"-" and word != b"Cores":
+            return None
+        return number(token, 2**64 - 2)
+
+    n = number(tokens.take(), MAX_N)
+    rows = [[entry() for _ in range(COLUMNS[word])] for _ in range(n)]
+    tokens.end()
+    return word, rows
+
+
+def cores_reason(rows, witness, v):
+    core, level = witness[v]
+    row = [target for target, _ in rows[v]]
+
+    def is_before(u, w):
+        return (witness[u][1], u) < (witness[w][1], w)
+
+    if sum(1 for x in row if witness[x][0] >= core) < core:
+        return b"LowerBound"
+    if sum(1 for x in row if not is_before(x, v)) > core:
+        return b"UpperBound"
+    if any(is_before(u, v) and witness[u][0] > core for u in range(len(rows))):
+        return b"Order"
+    return None
+
+
+def distances_reason(rows, witness, source, v):
+    dist, hops, parent = witness[v]
+    if v == source and (dist, hops, parent) != (0, 0, None):
+        return b"Source"
+    if dist is not None and any(witness[x][0] is None or witness[x][0] > dist + w for x, w in rows[v]):
+        return b"Lowerable"
+    if v != source and dist is not None:
+        held = hops is not None and parent is not None and parent < len(rows)
+        if held:
+            above, hops_above, _ = witness[parent]
+            held = above is not None and hops_above is not None and hops_above + 1 == hops
+            held = held and any(x == v and above + w == dist for x, w in rows[parent])
+        if not held:
+            return b"Parent"
+    if v != source and dist is None and (hops is not None or parent is not None):
+        return b"Unreached"
+    return None
+
+
+def cover_reason(rows, witness, elements, v):
+    by = witness[v][1]
+    if v in elements:
+        if by is None or by >= len(rows):
+            return b"NotCovered"
+        if v not in {target for target, _ in rows[by]}:
+            return b"NotHeld"
+        if witness[by][0] is None:
+            return b"NotChosen"
+    elif by is not None:
+        return b"NoElement"
+    return None
+
+
+def verdict(rows, word, witness, source):
+    """The exit code and the line of a check whose witness has the graph's size."""
+    elements = {target for row in rows for target, _ in row}
+    for v in range(len(rows)):
+        if word == b"Cores":
+            reason = cores_reason(rows, witness, v)
+        elif word == b"Distances":
+            reason = distances_reason(rows, witness, source, v)
+        else:
+            reason = cover_reason(rows, witness, elements, v)
+        if reason is not None:
+            return 1, b"no %d %s\n" % (v, reason)
+    return 0, b"yes\n"
+
+
 def is_text(word):
     try:
         word.decode("utf-8")
@@ -109,25 +211,63 @@ def is_text(word):
     return True
 
 
+def is_file_name(word):
+    return word != b"" and (word == b"-" or not word.startswith(b"-"))
+
+
+def query(words):
+    """The task, the names of the files and the source, or None where the words aren't taken."""
+    if not all(is_text(word) for word in words):
+        return None
+    if len(words) == 5 and words[:3] == [b"wbfs", b"--bare", b"--source"]:
+        task, number, names = b"wbfs", words[3], words[4:]
+    elif len(words) == 3 and words[0] == b"check":
+        task, number, names = b"check", b"0", words[1:]
+    elif len(words) == 5 and words[0] == b"check" and words[3] == b"--source":
+        task, number, names = b"check", words[4], words[1:3]
+    else:
+        return None
+    if not is_number(number) or int(number) > 2**32 - 1 or not all(is_file_name(name) for name in names):
+        return None
+    if names == [b"-", b"-"]:
+        return None
+    return task, names, int(number)
+
+
+def source_range(source, rows):
+    return 4, b"", b"source %d is not below %d\n" % (source, len(rows))
+
+
+def check(rows, name, source, files):
+    if name not in files:
+        return 5, b"", b"read fault: witness\n"
+    try:
+        word, witness = read_witness(files[name])
+    except Fault as fault:
+        return 3, b"", b"witness: " + fault.place
+    if len(witness) != len(rows):
+        return 4, b"", b"witness size %d, graph size %d\n" % (len(witness), len(rows))
+    if word == b"Distances" and source >= len(rows):
+        return source_range(source, rows)
+    code, line = verdict(rows, word, witness, source)
+    return code, line, b""
+
+
 def answer(words, files):
     """The exit code, the bytes of standard output and of standard error for words and files (bytes to bytes)."""
-    if not all(is_text(word) for word in words):
+    asked = query(words)
+    if asked is None:
         return 2, b"", USAGE
-    if len(words) != 5 or words[0] != b"wbfs" or words[1] != b"--bare" or words[2] != b"--source":
-        return 2, b"", USAGE
-    number, name = words[3], words[4]
-    if not is_number(number) or int(number) > 2**32 - 1:
-        return 2, b"", USAGE
-    if name == b"" or (name.startswith(b"-") and name != b"-"):
-        return 2, b"", USAGE
-    if name not in files:
+    task, names, source = asked
+    if names[0] not in files:
         return 5, b"", b"read fault: graph\n"
     try:
-        rows = read_graph(files[name])
+        rows = read_graph(files[names[0]])
     except Fault as fault:
-        return 3, b"", fault.line
-    source = int(number)
+        return 3, b"", b"graph: " + fault.place
+    if task == b"check":
+        return check(rows, names[1], source, files)
     if source >= len(rows):
-        return 4, b"", b"source %d is not below %d\n" % (source, len(rows))
+        return source_range(source, rows)
     lines = [b"-" if d is None else b"%d" % d for d in distances(rows, source)]
     return 0, b"".join(line + b"\n" for line in lines), b""

@@ -1,4 +1,5 @@
 pub mod RelaxationLaws
-pub mod BareTextLaws
 pub mod QueryLaws
 pub mod FileLaws
+pub mod AnswerLaws
+pub mod VerdictLaws

@@ -1,6 +1,8 @@
+pub mod Names
 pub mod Statuses
-pub mod Outcomes
-pub mod BareTexts
 pub mod Queries
 pub mod Asking
+pub mod Answers
+pub mod Outcomes
+pub mod Parts
 pub mod Relaxation

@@ -1,14 +1,17 @@
 //! The top call: everything that the program does, over any shelf of files, sinks and gate.
 //!
-//! `run` takes the words after the program's name, reads the graph file that they name, and writes the answer.
-//! Its contract says for every list of words and every file which bytes are written and which refusal comes.
+//! `run` takes the words after the program's name, reads the files that they name, and writes the answer.
+//! Its contract says for every list of words and all files which bytes are written and which refusal comes.
 #![tactic(auto)]
 
-mod bare_texts;
+mod checking;
+mod lines;
 mod loading;
 mod messages;
+mod names;
 mod queries;
 mod relaxation;
+mod replies;
 mod running;
 mod statuses;
 

@@ -2,6 +2,8 @@
 ghost use Rattle.std.specs.Prelude.{◌≡◌};
 
 use jul_adj::Fault;
+use jul_check::Reason;
+use jul_witness::WitnessFault;
 
 /// A file that the words name.
 #[derive(Clone, Copy, Debug, PartialEq, Eq)]
@@ -17,16 +19,32 @@ pub enum Which {
 pub enum Status {
     /// The whole answer was written.
     Done,
+    /// The witness isn't borne out by the graph, and the verdict was written whole.
+    No {
+        /// The least vertex that fails.
+        vertex: u32,
+        /// The first reason that it fails.
+        reason: Reason,
+    },
     /// The words are not of a form that is taken.
     Usage,
     /// The graph file has a fault, and this is its first one.
     GraphFault(Fault),
+    /// The witness file has a fault, and this is its first one.
+    WitnessFault(WitnessFault),
     /// The source is not below the number of vertices.
     SourceRange {
         /// The source that the words name.
         source: u32,
         /// The number of vertices of the graph.
         n: u32,
+    },
+    /// The witness has another number of vertices than the graph.
+    SizeDiffers {
+        /// The number of vertices of the witness.
+        witness: u32,
+        /// The number of vertices of the graph.
+        graph: u32,
     },
     /// A file could not be read to its end, or is missing.
     ReadFault {
@@ -48,9 +66,10 @@ impl Status {
     {
         match self {
             Status::Done => 0,
+            Status::No { .. } => 1,
             Status::Usage => 2,
-            Status::GraphFault(_) => 3,
-            Status::SourceRange { .. } => 4,
+            Status::GraphFault(_) | Status::WitnessFault(_) => 3,
+            Status::SourceRange { .. } | Status::SizeDiffers { .. } => 4,
             Status::ReadFault { .. } => 5,
             Status::WriteFault => 6,
             Status::Memory => 7,

@@ -1,4 +1,4 @@
-//! Whole runs on small graphs. The distances and the places of faults were worked out by hand.
+//! Whole runs on small graphs. Distances, verdicts and the places of faults were worked out by hand.
 use crate::{Status, Which, run};
 use jul_base::{MemShelf, MemSink, OpenGate};
 use std::alloc::{AllocError, Global};
@@ -7,13 +7,24 @@ use std::thread::Threads;
 
 /// Two ways to vertex 1: the edge of weight 5, and by way of 2.
 const TWO_WAYS: &str = "WeightedAdjacencyGraph\r\n3 3\r\n0 2 2\t1 2 1\n5 1 2";
+/// A triangle with one vertex hanging on it.
+const TRIANGLE: &str = "AdjacencyGraph 4 8 0 2 4 7 1 2 0 2 0 1 3 2";
+/// One edge, and a vertex that isn't reached.
+const APART: &str = "AdjacencyGraph 3 1 0 1 1 1";
 
-/// A run of `wbfs --bare --source SOURCE g` over a shelf and sinks that fail at the calls named, 0 for none.
+const LOOP: &str = "AdjacencyGraph 1 1 0 0";
+
+const NOTHING: &str = "AdjacencyGraph\n0\n0\n";
+/// Two edges of no weight between 1 and 2, and one of weight 5 from 0.
+const NO_WEIGHTS: &str = "WeightedAdjacencyGraph 3 3 0 1 2 1 2 1 5 0 0";
+/// Two sets of two elements with one in common.
+const TWO_SETS: &str = "AdjacencyGraph 5 4 0 2 4 4 4 2 3 3 4";
+
+/// A run over a shelf of a graph `g` and a witness `w`, and sinks that fail at the calls named, 0 for none.
 #[derive(Clone, Copy)]
 struct Trial<'a> {
-    source: &'a str,
-    name: &'a str,
-    file: &'a str,
+    words: &'a [&'a str],
+    files: &'a [(&'a str, &'a str)],
     read_fails: u64,
     write_fails: u64,
     message_fails: u64,
@@ -27,11 +38,10 @@ struct Outcome {
     err: Vec<u8>,
 }
 
-fn trial_of<'a>(source: &'a str, file: &'a str) -> Trial<'a> {
+fn trial_of<'a>(words: &'a [&'a str], files: &'a [(&'a str, &'a str)]) -> Trial<'a> {
     Trial {
-        source,
-        name: "g",
-        file,
+        words,
+        files,
         read_fails: 0,
         write_fails: 0,
         message_fails: 0,
@@ -40,12 +50,14 @@ fn trial_of<'a>(source: &'a str, file: &'a str) -> Trial<'a> {
 
 fn outcome_of<R: Threads>(rt: &R, alloc: Global, trial: &Trial<'_>) -> Result<Outcome, AllocError> {
     let mut words = Vec::new(alloc);
-    for word in ["wbfs", "--bare", "--source", trial.source, "g"] {
+    for word in trial.words {
         words.push(String::from_str(alloc, word)?)?;
     }
     let mut stored = Vec::new(alloc);
-    let name = String::from_str(alloc, trial.name)?;
-    stored.push((name, Vec::from_slice(alloc, trial.file.as_bytes())?))?;
+    for (name, text) in trial.files {
+        let name = String::from_str(alloc, name)?;
+        stored.push((name, Vec::from_slice(alloc, text.as_bytes())?))?;
+    }
     let mut files = MemShelf::new(stored, 5, Vec::from_slice(alloc, &[trial.read_fails])?);
     let fails = Vec::from_slice(alloc, &[trial.write_fails])?;
     let mut out = MemSink::new(Vec::with_capacity(alloc, 100)?, 4, fails);
@@ -69,19 +81,80 @@ fn outcome_of<R: Threads>(rt: &R, alloc: Global, trial: &Trial<'_>) -> Result<Ou
 
 #[test]
 fn least_distances_are_written(rt: HostRuntime) -> Result<(), Fail> {
+    let words = ["wbfs", "--bare", "--source", "0", "g"];
     for (file, text) in [
         (TWO_WAYS, "0\n3\n1\n"),
         ("WeightedAdjacencyGraph 3 3 0 1 2 1 2 1 0 0 0", "0\n0\n0\n"),
-        ("AdjacencyGraph 3 1 0 1 1 1", "0\n1\n-\n"),
+        (APART, "0\n1\n-\n"),
         (
             "WeightedAdjacencyGraph 3 2 0 1 2 1 2 4294967295 4294967295",
             "0\n4294967295\n8589934590\n",
         ),
     ] {
-        let outcome = outcome_of(&rt, rt.alloc(), &trial_of("0", file))?;
+        let outcome = outcome_of(&rt, rt.alloc(), &trial_of(&words, &[("g", file)]))?;
         assert_eq!(rt; outcome.status, Status::Done, "{file}");
         assert_eq!(rt; outcome.out.as_slice(), text.as_bytes(), "{file}");
         assert_eq!(rt; outcome.err.len(), 0, "{file}");
+    }
+    Ok(())
+}
+
+#[test]
+fn witnesses_are_judged(rt: HostRuntime) -> Result<(), Fail> {
+    for (source, graph, witness, code, text) in [
+        ("0", TRIANGLE, "Cores\n4\n2 1\n2 1\n2 1\n1 0\n", 0, "yes\n"),
+        (
+            "0",
+            TRIANGLE,
+            "Cores 4 2 1 2 1 2 1 2 0",
+            1,
+            "no 3 LowerBound\n",
+        ),
+        (
+            "0",
+            TRIANGLE,
+            "Cores 4 0 0 0 0 0 0 0 0",
+            1,
+            "no 0 UpperBound\n",
+        ),
+        ("9", LOOP, "Cores 1 1 7", 0, "yes\n"),
+        (
+            "0",
+            NO_WEIGHTS,
+            "Distances 3 0 0 - 3 1 2 3 2 1",
+            1,
+            "no 1 Parent\n",
+        ),
+        (
+            "0",
+            APART,
+            "Distances 3 0 0 - 1 1 0 - - 1",
+            1,
+            "no 2 Unreached\n",
+        ),
+        ("1", TWO_WAYS, "Distances 3 - - - 0 0 - - - -", 0, "yes\n"),
+        (
+            "0",
+            TWO_SETS,
+            "Cover\n5\n0 -\n0 -\n- 0\n- 0\n- 1\n",
+            0,
+            "yes\n",
+        ),
+        (
+            "0",
+            TWO_SETS,
+            "Cover 5 0 - 0 - - 0 - 0 - 0",
+            1,
+            "no 4 NotHeld\n",
+        ),
+        ("0", NOTHING, "Cover 0", 0, "yes\n"),
+    ] {
+        let words = ["check", "g", "w", "--source", source];
+        let files = [("g", graph), ("w", witness)];
+        let outcome = outcome_of(&rt, rt.alloc(), &trial_of(&words, &files))?;
+        assert_eq!(rt; outcome.status.code(), code, "{witness}");
+        assert_eq!(rt; outcome.out.as_slice(), text.as_bytes(), "{witness}");
+        assert_eq!(rt; outcome.err.len(), 0, "{witness}");
     }
     Ok(())
 }
@@ -94,38 +167,91 @@ fn each_refusal_has_its_line(rt: HostRuntime) -> Result<(), Fail> {
         ("0", "", 3, "graph: Truncated at token 0, byte 0\n"),
         (
             "0",
-            "AdjacencyGraph -1 0",
-            3,
-            "graph: BadNumber at token 1, byte 15\n",
-        ),
-        (
-            "0",
             "AdjacencyGraph 2 1 0 1 1 7",
             3,
             "graph: Trailing at token 6, byte 25\n",
         ),
     ] {
-        let outcome = outcome_of(&rt, rt.alloc(), &trial_of(source, file))?;
+        let words = ["wbfs", "--bare", "--source", source, "g"];
+        let outcome = outcome_of(&rt, rt.alloc(), &trial_of(&words, &[("g", file)]))?;
         assert_eq!(rt; outcome.status.code(), code, "{file}");
         assert_eq!(rt; outcome.out.len(), 0, "{file}");
         assert_eq!(rt; outcome.err.as_slice(), line.as_bytes(), "{file}");
     }
-    let outcome = outcome_of(&rt, rt.alloc(), &trial_of("4294967296", TWO_WAYS))?;
-    assert_eq!(rt; outcome.status, Status::Usage);
-    assert!(rt;
-        outcome
-            .err
-            .as_slice()
-            .starts_with(b"usage: julienne TASK GRAPH [WITNESS] ")
-    );
+    Ok(())
+}
+
+#[test]
+fn each_refusal_of_a_witness_has_its_line(rt: HostRuntime) -> Result<(), Fail> {
+    for (name, graph, witness, code, line) in [
+        (
+            "w",
+            LOOP,
+            "Cores 1 x 0",
+            3,
+            "witness: Number at token 2, byte 8\n",
+        ),
+        (
+            "w",
+            LOOP,
+            "Cores 1 - 0",
+            3,
+            "witness: Number at token 2, byte 8\n",
+        ),
+        (
+            "w",
+            TRIANGLE,
+            "Cores 0",
+            4,
+            "witness size 0, graph size 4\n",
+        ),
+        ("w", NOTHING, "Distances 0", 4, "source 0 is not below 0\n"),
+        ("g", LOOP, "", 3, "witness: Header at token 0, byte 0\n"),
+        ("x", LOOP, "", 5, "read fault: witness\n"),
+        (
+            "x",
+            "AdjacencyGraph 1 0",
+            "",
+            3,
+            "graph: Truncated at token 3, byte 18\n",
+        ),
+    ] {
+        let words = ["check", "g", name];
+        let files = [("g", graph), ("w", witness)];
+        let outcome = outcome_of(&rt, rt.alloc(), &trial_of(&words, &files))?;
+        assert_eq!(rt; outcome.status.code(), code, "{line}");
+        assert_eq!(rt; outcome.out.len(), 0, "{line}");
+        assert_eq!(rt; outcome.err.as_slice(), line.as_bytes(), "{line}");
+    }
+    Ok(())
+}
+
+#[test]
+fn other_words_are_not_taken(rt: HostRuntime) -> Result<(), Fail> {
+    for words in [
+        ["check", "-", "-"].as_slice(),
+        ["check", "g", "--source"].as_slice(),
+        ["check", "--source", "0", "g", "w"].as_slice(),
+        ["wbfs", "--bare", "--source", "4294967296", "g"].as_slice(),
+    ] {
+        let outcome = outcome_of(&rt, rt.alloc(), &trial_of(words, &[("g", TWO_WAYS)]))?;
+        assert_eq!(rt; outcome.status, Status::Usage);
+        assert!(rt;
+            outcome
+                .err
+                .as_slice()
+                .starts_with(b"usage: julienne TASK GRAPH [WITNESS] ")
+        );
+    }
     Ok(())
 }
 
 #[test]
 fn failing_objects_are_told(rt: HostRuntime) -> Result<(), Fail> {
-    let mut missing = trial_of("0", TWO_WAYS);
-    missing.name = "other";
-    let mut unread = trial_of("0", TWO_WAYS);
+    let words = ["wbfs", "--bare", "--source", "0", "g"];
+    let files = [("g", TWO_WAYS)];
+    let missing = trial_of(&words, &[("other", TWO_WAYS)]);
+    let mut unread = trial_of(&words, &files);
     unread.read_fails = 3;
     for trial in [missing, unread] {
         let outcome = outcome_of(&rt, rt.alloc(), &trial)?;
@@ -133,7 +259,7 @@ fn failing_objects_are_told(rt: HostRuntime) -> Result<(), Fail> {
         assert_eq!(rt; outcome.out.len(), 0);
         assert_eq!(rt; outcome.err.as_slice(), b"read fault: graph\n".as_slice());
     }
-    let mut unwritten = trial_of("0", TWO_WAYS);
+    let mut unwritten = trial_of(&words, &files);
     unwritten.write_fails = 2;
     unwritten.message_fails = 1;
     let outcome = outcome_of(&rt, rt.alloc(), &unwritten)?;

@@ -1,17 +1,24 @@
-use Rattle.std.proofs.Common.{◌≡◌, [], ◌∷◌, map, sym, ◌∙◌, subst, ap}
+use Rattle.std.proofs.Common.{map, ap, sym, ◌∙◌}
 use Rattle.std.specs.String.{string_bytes}
 use Rattle.std.proofs.lemmas.List.{length-map}
 use Rattle.jul_cmd.specs.Queries.{asked}
-use Rattle.jul_cmd.specs.Asking.{IsAsked}
-use Rattle.jul_cmd.proofs.QueryLaws.{asked_none, asked_five, five}
+use Rattle.jul_cmd.proofs.QueryLaws.{asked-wbfs, asked-check, asked-other, taken_as, taken_none}
 use Rattle.jul_cmd.proofs.queries.parse_words.Goals as goal
 
-pub returns-then-words-ne5 : goal.returns-then-words-ne5
-returns-then-words-ne5 c = asked_none _ (λ e. c.if-words-ne5.true (sym (length-map c.args.words.now string_bytes) ∙ e))
+pub returns-in_err-task : goal.returns-in_err-task
+returns-in_err-task c = taken_none _ _ c.from_residual.ensures (length-map c.args.words.now string_bytes ∙ c.in_err-task.ensures.cases)
 
-pub returns : goal.returns
-returns c =
-    let words : c.args.words.now ≡ c.index-words-0.result ∷ c.index-words-1.result ∷ c.index-words-2.result ∷ c.index-words-3.result ∷ c.index-words-4.result ∷ [] =
-    five c.args.words.now _ _ _ _ _ c.if-words-ne5.false c.index-words-0.is c.index-words-1.is c.index-words-2.is c.index-words-3.is c.index-words-4.is in
-    subst (IsAsked c.parse_five.result) (sym (ap (λ ws. asked (map string_bytes ws)) words ∙ asked_five _ _ _ _ _))
-    (rw (c.as_str.ensures.value, c.as_str-2.ensures.value, c.as_str-3.ensures.value, c.as_str-4.ensures.value, c.as_str-5.ensures.value) at c.parse_five.ensures)
+pub returns-in-wbfs : goal.returns-in-wbfs
+returns-in-wbfs c =
+    let name = sym c.as_str.ensures.value ∙ c.in-wbfs.is in
+    taken_as _ _ _ _ _ (ap (map string_bytes) c.in_ok-task.ensures.cases.0) (asked-wbfs (string_bytes c.in_ok-task.task.now) (map string_bytes c.in_ok-task.rest.now) name) c.parse_search.ensures
+
+pub returns-in-check : goal.returns-in-check
+returns-in-check c =
+    let name = sym c.as_str.ensures.value ∙ c.in-check.is in
+    taken_as _ _ _ _ _ (ap (map string_bytes) c.in_ok-task.ensures.cases.0) (asked-check (string_bytes c.in_ok-task.task.now) (map string_bytes c.in_ok-task.rest.now) name) c.parse_check.ensures
+
+pub returns-in_default : goal.returns-in_default
+returns-in_default c =
+    ap asked (ap (map string_bytes) c.in_ok-task.ensures.cases.0) ∙
+    asked-other (string_bytes c.in_ok-task.task.now) (map string_bytes c.in_ok-task.rest.now) (λ e. c.in_default.not-wbfs (c.as_str.ensures.value ∙ e)) (λ e. c.in_default.not-check (c.as_str.ensures.value ∙ e))
