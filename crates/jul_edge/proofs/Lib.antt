@@ -1,0 +1,4 @@
+pub mod VisitLaws
+pub mod CoverLaws
+pub mod ApplyingLaws
+pub mod PushLaws
