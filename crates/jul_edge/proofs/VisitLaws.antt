@@ -1,18 +1,19 @@
 -- How places that were visited are put one behind another.
 use Rattle.std.proofs.Common.{zero, suc, ◌≡◌, ℕ, ◌+◌, ◌-◌, ◌<◌, ◌≤◌, List, [], ◌∷◌, ◌++◌, length, map, take, get_or, refl, ap, sym, ◌∙◌, subst, arith, Bool, true, false, if◌then◌else◌}
-use Rattle.std.specs.Prelude.{◌||◌, ◌↔◌, IsTrue, Contains}
+use Rattle.std.specs.Prelude.{◌↔◌, IsTrue, Contains}
 use Rattle.std.proofs.Common.{inl, inr, All, ◌⊎◌}
 use Rattle.std.proofs.lemmas.Bool.{cases_Bool}
 use Rattle.jul_base.proofs.SetLaws.{has-from_Contains, Contains-from_has}
-use Rattle.std.proofs.lemmas.List.{map-append, append_assoc, append-nil}
+use Rattle.std.proofs.lemmas.Grind.{flat_map-append}
+use Rattle.std.proofs.lemmas.List.{map-id, map-append, append_assoc, append-nil}
 use Rattle.std.specs.Prelude.{slice_index}
 use Rattle.std.specs.List.{filter, flat_map, range_with_len}
-use Rattle.std.proofs.lemmas.List.FromFn.{filter_of_map_range_with_len_more}
+use Rattle.std.proofs.lemmas.List.FromFn.{map-range_with_len_more, filter_of_map_range_with_len_more}
 use Rattle.jul_base.specs.declared.graphs.RawGraph.{RawGraph}
 use Rattle.jul_base.specs.Graph.{row_start, row_end, target}
 use Rattle.jul_base.specs.Logs.{Home}
 use Rattle.jul_base.specs.Sets.{has}
-use Rattle.jul_edge.specs.Visits.{IsSame, push_steps, Step, step, Visited, noted_of, any_noted, VisitedInOrder, HasVisited, HasPushed, HasPulled}
+use Rattle.jul_edge.specs.Visits.{IsSame, push_steps, Step, step, Visited, noted_of, VisitedInOrder, HasVisited, HasPushed}
 
 noted_of-if : (b : Bool) (v : ℕ) (xs ys zs : List ℕ) → zs ≡ xs ++ ys → (if b then v ∷ zs else zs) ≡ (if b then v ∷ xs else xs) ++ ys
 noted_of-if true v xs ys zs e = ap (λ l. v ∷ l) e
@@ -21,18 +22,6 @@ noted_of-if false v xs ys zs e = e
 pub noted_of-append : (xs ys : List Visited) → noted_of (xs ++ ys) ≡ noted_of xs ++ noted_of ys
 noted_of-append [] ys = refl
 noted_of-append (x ∷ xs) ys = noted_of-if x.noted x.step.target (noted_of xs) (noted_of ys) (noted_of (xs ++ ys)) (noted_of-append xs ys)
-
-or_false : (a : Bool) → a ≡ (a || false)
-or_false true = refl
-or_false false = refl
-
-or_assoc : (a b c : Bool) → (a || (b || c)) ≡ ((a || b) || c)
-or_assoc true b c = refl
-or_assoc false b c = refl
-
-pub any_noted-append : (xs ys : List Visited) → any_noted (xs ++ ys) ≡ (any_noted xs || any_noted ys)
-any_noted-append [] ys = refl
-any_noted-append (x ∷ xs) ys = ap (λ b. x.noted || b) (any_noted-append xs ys) ∙ or_assoc x.noted (any_noted xs) (any_noted ys)
 
 module _ {T : Type 0} (home : T → List Home) (is_root : T → Bool) (out : T → ℕ) where
   pub same_then : (old mid new : T) → IsSame home is_root out old mid → IsSame home is_root out mid new → IsSame home is_root out old new
@@ -75,6 +64,20 @@ has_test members u false is =
       | inl found ↦ absurd (let t : false ≡ true = is.1 (Contains-from_has members u found) in cc)
       | inr missing ↦ missing
     ]
+
+range_grows : (first n : ℕ) → range_with_len first (n + 1) ≡ range_with_len first n ++ (first + n) ∷ []
+range_grows first n =
+    sym (map-id (range_with_len first (n + 1))) ∙ map-range_with_len_more (λ x. x) first n (first + n) refl ∙ ap (λ (l : List ℕ). l ++ (first + n) ∷ []) (map-id (range_with_len first n))
+
+-- the places that lead to wanted vertices from a first one on, with one more vertex
+pub range_more : (f : ℕ → List Step) (first v : ℕ) → first ≤ v → flat_map f (range_with_len first (v + 1 - first)) ≡ flat_map f (range_with_len first (v - first)) ++ f v
+range_more f first v le =
+    let size : v + 1 - first ≡ (v - first) + 1 = omega arith in
+    let at : first + (v - first) ≡ v = omega arith in
+    ap (λ n. flat_map f (range_with_len first n)) size
+    ∙ ap (flat_map f) (range_grows first (v - first) ∙ ap (λ k. range_with_len first (v - first) ++ k ∷ []) at)
+    ∙ flat_map-append f (range_with_len first (v - first)) (v ∷ [])
+    ∙ ap (λ l. flat_map f (range_with_len first (v - first)) ++ l) (append-nil (f v))
 
 -- what is made of the first members, with one more
 pub flat_more : (f : ℕ → List Step) (us : List ℕ) (k u : ℕ) → k < length us → u ≡ get_or us k 0 → flat_map f (take (k + 1) us) ≡ flat_map f (take k us) ++ f u
@@ -125,24 +128,10 @@ module _ {T : Type 0} (visits : Visited → T → T → Type 0) where
   pub pushed_same : (ss ts : List Step) (old new : T) (b c : List ℕ) → ss ≡ ts → HasPushed visits ss old new b c → HasPushed visits ts old new b c
   pushed_same ss ts old new b c e x = record { visited = x.visited; has_visited = record { in_order = x.has_visited.in_order; steps_are = x.has_visited.steps_are ∙ e }; noted_are = x.noted_are }
 
-  pub pulled_same : (ss ts : List Step) (old new : T) (any : Bool) → ss ≡ ts → HasPulled visits ss old new any → HasPulled visits ts old new any
-  pulled_same ss ts old new any e x = record { visited = x.visited; has_visited = record { in_order = x.has_visited.in_order; steps_are = x.has_visited.steps_are ∙ e }; any_is = x.any_is }
+  -- a place that was not visited
+  pub pushed_unchosen : (w : Bool) (ss : List Step) (old : T) (before : List ℕ) → w ≡ false → HasPushed visits (if w then ss else []) old old before before
+  pushed_unchosen w ss old before unchosen = rw unchosen (pushed_none old before)
 
-  pub pulled_none : (old : T) → HasPulled visits [] old old false
-  pulled_none old = record { visited = []; has_visited = visited_none old; any_is = refl }
-
-  pub pulled_one : (s : Step) (answer : Bool) (old new : T) → visits (record { step = s; noted = answer }) old new → HasPulled visits (s ∷ []) old new answer
-  pulled_one s answer old new v = record { visited = record { step = s; noted = answer } ∷ []; has_visited = visited_one (record { step = s; noted = answer }) old new v; any_is = or_false answer }
-
-  pub pulled_chosen : (w answer : Bool) (s : Step) (old new : T) → w ≡ true → visits (record { step = s; noted = answer }) old new → HasPulled visits (if w then s ∷ [] else []) old new answer
-  pulled_chosen w answer s old new chosen v = rw chosen (pulled_one s answer old new v)
-
-  pub pulled_unchosen : (w : Bool) (s : Step) (old : T) → w ≡ false → HasPulled visits (if w then s ∷ [] else []) old old false
-  pulled_unchosen w s old unchosen = rw unchosen (pulled_none old)
-
-  pub pulled_append : (ss ts all : List Step) (old mid new : T) (a b c : Bool) → all ≡ ss ++ ts → HasPulled visits ss old mid a → HasPulled visits ts mid new b → c ≡ (a || b) → HasPulled visits all old new c
-  pulled_append ss ts all old mid new a b c e x y is = record {
-    visited = x.visited ++ y.visited;
-    has_visited = visited_append ss ts all x.visited y.visited old mid new e x.has_visited y.has_visited;
-    any_is = is ∙ ap (λ z. z || b) x.any_is ∙ ap (λ z. any_noted x.visited || z) y.any_is ∙ sym (any_noted-append x.visited y.visited);
-  }
+  -- places that were visited because their target is wanted
+  pub pushed_where : (w : Bool) (ss : List Step) (old new : T) (before after : List ℕ) → w ≡ true → HasPushed visits ss old new before after → HasPushed visits (if w then ss else []) old new before after
+  pushed_where w ss old new before after chosen x = rw chosen x

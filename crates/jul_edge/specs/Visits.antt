@@ -1,7 +1,6 @@
 -- Places that loops visit one after another, whatever is done at each.
-use Rattle.std.specs.Prelude.{ℕ, ◌-◌, ◌≤◌, ◌<◌, List, [], ◌∷◌, ◌++◌, ◌≡◌, ◌↔◌, Bool, true, false, map, length, slice_index, All, Contains, ◌||◌, if◌then◌else◌}
+use Rattle.std.specs.Prelude.{ℕ, ◌-◌, ◌<◌, List, [], ◌∷◌, ◌++◌, ◌≡◌, Bool, true, map, length, slice_index, All, Contains, if◌then◌else◌}
 use Rattle.std.specs.List.{filter, flat_map, range_with_len, slice_index_or}
-use Rattle.std.specs.List.Sorted.{IsStrictlyIncreasing}
 use Rattle.jul_base.specs.declared.graphs.RawGraph.{RawGraph}
 use Rattle.jul_base.specs.Graph.{target, row_start, row_end, IsPlaceOf}
 use Rattle.jul_base.specs.Logs.{Home}
@@ -43,10 +42,6 @@ abbrev pub noted_of : List Visited → List ℕ
 noted_of [] = []
 noted_of (x ∷ xs) = if x.noted then x.step.target ∷ noted_of xs else noted_of xs
 
-abbrev pub any_noted : List Visited → Bool
-any_noted [] = false
-any_noted (x ∷ xs) = x.noted || any_noted xs
-
 -- the wanted places of u, in order
 abbrev pub push_steps : RawGraph → (ℕ → Bool) → ℕ → List Step
 push_steps g wanted u = filter (λ s. wanted s.target) (map (λ p. step u p (target g p)) (range_with_len (row_start g u) (row_end g u - row_start g u)))
@@ -83,23 +78,3 @@ module _ {T : Type 0} (visits : Visited → T → T → Type 0) where
     pub visited : List Visited
     pub has_visited : HasVisited steps old new visited
     pub noted_are : after ≡ before ++ noted_of visited
-
-  -- and `any` says whether one is to be noted
-  pub record HasPulled (steps : List Step) (old new : T) (any : Bool) : Type 0 where
-    pub visited : List Visited
-    pub has_visited : HasVisited steps old new visited
-    pub any_is : any ≡ any_noted visited
-
-  -- and v stands behind what was noted before where one is to be noted
-  pub record HasNoted (steps : List Step) (v : ℕ) (old new : T) (before after : List ℕ) : Type 0 where
-    pub any : Bool
-    pub has_pulled : HasPulled steps old new any
-    pub noted_are : after ≡ before ++ (if any then v ∷ [] else [])
-
-  -- and those to be noted stand once each, in increasing order
-  pub record HasGathered (steps : List Step) (old new : T) (first last : ℕ) (noted : List ℕ) : Type 0 where
-    pub visited : List Visited
-    pub has_visited : HasVisited steps old new visited
-    pub increasing : IsStrictlyIncreasing noted
-    pub within : All (λ v. (first ≤ v) × (v < last)) noted
-    pub noted_are : (v : ℕ) → Contains noted v ↔ Contains (noted_of visited) v

@@ -1,6 +1,7 @@
 //! Edges walked from the members of a subset.
 ghost use Rattle.std.specs.Prelude.{◌≡◌, ℕ, ◌+◌, ◌*◌, ◌<◌, ◌≤◌, ◌^◌, [], ◌∷◌, ◌++◌, true, false, List, length, IfOk, All};
 ghost use Rattle.jul_base.specs.Graph.{vertices, places, IsLawful};
+ghost use Rattle.jul_subset.specs.Subsets.{IsSubset};
 ghost use Rattle.jul_subset.specs.Chunks.{chunk_of};
 ghost use Rattle.jul_subset.specs.Applications.{Done, AppliedInOrder, answered_true};
 ghost use Rattle.jul_edge.specs.declared.functions.Direction.TheVariants.{Push};
@@ -131,23 +132,18 @@ pub fn edge_push<R: Threads + Sync, F: EdgeFn, G: Gate>(
     ensures none_out { IfOk result (λ r. F.Token.out r.token ≡ 0) }
     ensures home { IfOk result (λ r. F.Token.home r.token ≡ F.Token.home token) }
 {
-    let members = from.ids()?;
-    push_list(
-        rt,
-        alloc,
-        team,
-        rows,
-        members.as_slice(),
-        f,
-        token,
-        stamps,
-        stamp_seat,
-        round,
-    )
+    prove!(from.n() == rows.n());
+    match from.as_slice() {
+        Some(members) => push_list(rt, alloc, team, rows, members, f, token, stamps, stamp_seat, round),
+        None => {
+            let members = from.ids()?;
+            push_list(rt, alloc, team, rows, members.as_slice(), f, token, stamps, stamp_seat, round)
+        }
+    }
 }
 
 /// Pushes along the rows of these members, with the tokens as roots.
-fn push_list<R: Threads + Sync, F: EdgeFn, G: Gate>(
+pub(crate) fn push_list<R: Threads + Sync, F: EdgeFn, G: Gate>(
     rt: &R,
     alloc: Global,
     team: &Team<'_, G>,
@@ -159,8 +155,8 @@ fn push_list<R: Threads + Sync, F: EdgeFn, G: Gate>(
     stamp_seat: StampSeat,
     round: u64,
 ) -> Result<EdgeOut<F::Token>, AllocError>
-    requires members { All (λ u. u < vertices rows.now) members.now }
-    requires increasing { IsStrictlyIncreasing members.now }
+    requires lawful { IsLawful rows.now }
+    requires members { IsSubset (record { n = vertices rows.now; members = members.now; dense = false }) }
     requires root { F.Token.is_root token ≡ true }
     requires none_out { F.Token.out token ≡ 0 }
     requires stamps { CanStamp (vertices rows.now) stamps.now round stamp_seat }
@@ -210,12 +206,12 @@ fn push_chunks<'a, R: Threads + Sync, F: EdgeFn, G: Gate>(
     requires may { MayPush (F.can_want visit.f.now) (F.can_apply visit.f.now) visit.rows.now members.now
         (F.wanted visit.f.now) F.Token.parts visit.round (F.Token.home token ++ hand.seat.home ∷ []) }
 
-    ensures pushed { IfOk result (λ r. PushedAll (F.gives visit.f.now) visit.rows.now visit.round members.now
-        (F.wanted visit.f.now) (F.Token.log token) (F.Token.log r.0) hand.seat r.1.seat r.2.items) }
+    ensures pushed { IfOk result (λ r. PushedAll (F.gives visit.entry.f.now) visit.entry.rows.now visit.entry.round members.now
+        (F.wanted visit.entry.f.now) (F.Token.log token) (F.Token.log r.0) hand.entry.seat r.1.seat r.2.items) }
     ensures root { IfOk result (λ r. (F.Token.is_root r.0 ≡ true) × (r.1.seat.root ≡ true)) }
     ensures none_out { IfOk result (λ r. (F.Token.out r.0 ≡ 0) × (r.1.seat.out ≡ 0)) }
     ensures home { IfOk result (λ r. F.Token.home r.0 ≡ F.Token.home token) }
-    ensures seat_home { IfOk result (λ r. r.1.seat.home ≡ hand.seat.home) }
+    ensures seat_home { IfOk result (λ r. r.1.seat.home ≡ hand.entry.seat.home) }
 {
     let chunks = members.len().div_ceil(team.chunk as usize) as u32;
     let job = PushJob {
