@@ -1,0 +1,7 @@
+pub mod IncreasingLaws
+pub mod MarkLaws
+pub mod ViewLaws
+pub mod ListLaws
+pub mod ChunkLaws
+pub mod ApplicationLaws
+pub mod PickingLaws

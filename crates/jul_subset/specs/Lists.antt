@@ -1,11 +1,17 @@
 -- Lists of ids that are to be a subset, and the first id that is wrong.
-use Rattle.std.specs.Prelude.{ℕ, ◌<◌, ◌≤◌, ◌≡◌, ◌≢◌, ◌↔◌, List, length, slice_index, take, Contains}
+use Rattle.std.specs.Prelude.{ℕ, ◌<◌, ◌≤◌, List, length, slice_index, take, Contains, Option, MatchOption}
 use Rattle.jul_subset.specs.declared.errors.SubsetError.{SubsetError}
 use Rattle.jul_subset.specs.declared.errors.SubsetError.TheVariants.{Range, Repeat, Memory}
 
 -- the id at this place stands at an earlier one too
 abbrev pub IsRepeat : List ℕ → ℕ → Type 0
 IsRepeat ids at = Contains (take at ids) (slice_index ids at)
+
+-- the first place of a repeat, or none
+abbrev pub FindsRepeat : List ℕ → Option ℕ → Type 0
+FindsRepeat ids found =
+    MatchOption found ((i : ℕ) → i < length ids → IsRepeat ids i → ⊥)
+    (λ at. (at < length ids) × IsRepeat ids at × ((i : ℕ) → i < at → IsRepeat ids i → ⊥))
 
 -- each id before this place is below n and stands at no earlier place
 pub record IsRightBefore (n : ℕ) (ids : List ℕ) (at : ℕ) : Type 0 where

@@ -1,5 +1,5 @@
 //! The members of a subset that a test keeps, by several threads.
-ghost use Rattle.std.specs.Prelude.{◌≡◌, ℕ, ◌*◌, ◌<◌, false, IfOk, length, All};
+ghost use Rattle.std.specs.Prelude.{◌≡◌, ℕ, ◌*◌, ◌<◌, [], false, IfOk, length, All};
 ghost use Rattle.std.specs.List.{filter};
 ghost use Rattle.jul_subset.specs.Subsets.{Subset, IsSubset};
 ghost use Rattle.jul_subset.specs.Chunks.{chunk_of};

@@ -20,5 +20,5 @@ pub use functions::{VertexFn, VertexTest};
 pub use maps::vertex_map;
 pub use subsets::VertexSubset;
 
-
-
+#[cfg(test)]
+mod tests;

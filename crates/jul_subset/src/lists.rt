@@ -1,10 +1,9 @@
 //! Subsets made from lists of ids.
-ghost use Rattle.std.specs.Prelude.{◌≡◌, ℕ, ◌<◌, ◌≤◌, ◌↔◌, false, IfOk, IfErr, length, take};
-ghost use Rattle.std.specs.Prelude.{MatchResult, MatchOption, slice_index, All, Contains};
+ghost use Rattle.std.specs.Prelude.{◌≡◌, ℕ, ◌<◌, ◌≤◌, ◌↔◌, false, IfOk, IfErr, length, slice_index, All, Contains};
 ghost use Rattle.std.specs.List.Sorted.{IsStrictlyIncreasing};
 ghost use Rattle.jul_base.specs.declared.limits.TheConstants.{MAX_N};
 ghost use Rattle.jul_subset.specs.Subsets.{IsSubset};
-ghost use Rattle.jul_subset.specs.Lists.{IsRepeat, IsRightBefore, NamesFirstWrong};
+ghost use Rattle.jul_subset.specs.Lists.{FindsRepeat, IsRightBefore, NamesFirstWrong};
 
 use crate::errors::SubsetError;
 use crate::marks::{listed, marks_at};
@@ -30,13 +29,15 @@ impl VertexSubset {
         let inside = first_outside(n, ids);
         let (front, _) = ids.split_at(inside);
         let members = in_order(Vec::from_slice(alloc, front)?);
-        if let Some(at) = first_repeat(alloc, front, members.as_slice())? {
-            return Err(SubsetError::Repeat { at });
+        match first_repeat(alloc, front, members.as_slice())? {
+            Some(at) => Err(SubsetError::Repeat { at }),
+            None => {
+                if inside < ids.len() {
+                    return Err(SubsetError::Range { at: inside });
+                }
+                Ok(VertexSubset::from_increasing(alloc, n, members))
+            }
         }
-        if inside < ids.len() {
-            return Err(SubsetError::Range { at: inside });
-        }
-        Ok(VertexSubset::from_increasing(alloc, n, members))
     }
 
     /// The sparse subset of these ids below `n`, which may stand in any order and more than once. A long list is put
@@ -88,9 +89,7 @@ fn first_repeat(alloc: Global, ids: &[u32], members: &[u32]) -> Result<Option<us
     requires increasing { IsStrictlyIncreasing members.now }
     requires all { (v : ℕ) → Contains ids.now v → Contains members.now v }
 
-    ensures { IfOk result (λ found. MatchOption found
-        ((i : ℕ) → i < length ids.now → IsRepeat ids.now i → ⊥)
-        (λ at. (at < length ids.now) × IsRepeat ids.now at × ((i : ℕ) → i < at → IsRepeat ids.now i → ⊥))) }
+    ensures { IfOk result (FindsRepeat ids.now) }
 {
     let mut seen = vec![in alloc; false; members.len()]?;
     for (at, id) in ids.iter().enumerate() {

@@ -1,5 +1,5 @@
 //! A function applied to each member of a subset, by several threads.
-ghost use Rattle.std.specs.Prelude.{◌≡◌, ℕ, ◌*◌, ◌<◌, true, false, IfOk, length, All};
+ghost use Rattle.std.specs.Prelude.{◌≡◌, ℕ, ◌*◌, ◌<◌, [], List, true, false, IfOk, length, All};
 ghost use Rattle.jul_subset.specs.Subsets.{Subset, IsSubset};
 ghost use Rattle.jul_subset.specs.Chunks.{chunk_of};
 ghost use Rattle.jul_subset.specs.Applications.{Done, AppliedInOrder, AppliedOnce, answered_true};

@@ -1,0 +1,85 @@
+-- How the chunks of a list, and what was run at each chunk once, are put together.
+use Rattle.std.proofs.Common.{zero, suc, ◌≡◌, ℕ, ◌+◌, ◌*◌, ◌<◌, ◌≤◌, List, [], ◌∷◌, ◌++◌, length, map, take, drop, refl, ap, sym, ◌∙◌, subst, arith, All, Option, Some, None, slice_get, ⊎_elim}
+use Rattle.std.specs.Prelude.{sum_by}
+use Rattle.std.specs.List.{range_with_len}
+use Rattle.std.proofs.lemmas.List.{take-append-drop, drop-drop}
+use Rattle.std.proofs.lemmas.List.Sums.{sum_by-append}
+use Rattle.std.proofs.lemmas.Bool.{cases_eq}
+use Rattle.jul_base.specs.Logs.{Log}
+use Rattle.jul_base.specs.Numbers.{below}
+use Rattle.jul_base.proofs.PartLaws.{below-more}
+use Rattle.jul_pool.specs.Times.{times, EachOnceBelow}
+use Rattle.jul_pool.specs.Runs.{Run, IsRun, EachRunOnce}
+use Rattle.jul_pool.proofs.TimesLaws.{times-append, times_here, times_other}
+use Rattle.jul_subset.specs.Chunks.{chunk_of}
+
+-- what is left from one chunk on is that chunk and what is left from the next one on
+pub chunk_then : {X : Type 0} (xs : List X) (size k : ℕ) → drop (k * size) xs ≡ chunk_of xs size k ++ drop ((k + 1) * size) xs
+chunk_then xs size k =
+    let e : k * size + size ≡ (k + 1) * size = omega arith in
+    sym (take-append-drop size (drop (k * size) xs)) ∙ ap (λ l. chunk_of xs size k ++ l) (drop-drop size (k * size) xs ∙ ap (λ i. drop i xs) e)
+
+-- a list that has k, about one place of it
+record About (k : ℕ) (xs : List ℕ) : Type 0 where
+  pub front : List ℕ
+  pub back : List ℕ
+  pub is : xs ≡ front ++ k ∷ back
+
+about : (k : ℕ) (xs : List ℕ) → 0 < times k xs → About k xs
+about k [] h = absurd (omega arith)
+about k (x ∷ xs) h =
+    ⊎_elim
+    (λ (e : x ≡ k). record { front = []; back = xs; is = ap (λ y. y ∷ xs) e })
+    (λ (ne : x ≡ k → ⊥).
+    let r = about k xs (omega (arith, times-append k (x ∷ []) xs, times_other k x (λ e. ne (sym e)), h)) in
+    record { front = x ∷ r.front; back = r.back; is = ap (λ l. x ∷ l) r.is })
+    (cases_eq x k)
+
+times_about : (x k : ℕ) (front back : List ℕ) → times x (front ++ k ∷ back) ≡ times x (front ++ back) + times x (k ∷ [])
+times_about x k front back = omega (arith, times-append x front (k ∷ back), times-append x (k ∷ []) back, times-append x front back)
+
+-- the numbers below n, each once, weigh what they weigh in order
+pub each_once_sum : (g : ℕ → ℕ) (n : ℕ) (xs : List ℕ) → EachOnceBelow n xs → sum_by g xs ≡ sum_by g (below n)
+each_once_sum g zero [] o = refl
+each_once_sum g zero (x ∷ xs) o = absurd (omega (arith, o.no_other x (omega arith), times-append x (x ∷ []) xs, times_here x x refl))
+each_once_sum g (suc n) xs o =
+    let a : About n xs = about n xs (let t : times n xs ≡ 1 = o.once n (omega arith) in omega arith) in
+    let t = λ (x : ℕ). ap (times x) a.is ∙ times_about x n a.front a.back in
+    let rest : EachOnceBelow n (a.front ++ a.back) = record {
+      once = λ x h. omega (arith, t x, o.once x (omega arith), times_other x n (omega arith));
+      no_other = λ x h.
+          ⊎_elim
+          (λ (e : x ≡ n). omega (arith, t x, o.once x (omega arith), times_here x n e))
+          (λ (ne : x ≡ n → ⊥). let past : n < x = grind arith in omega (arith, t x, o.no_other x (omega arith), times_other x n ne))
+          (cases_eq x n);
+    } in
+    let more : below (suc n) ≡ below n ++ n ∷ [] = (let s : suc n ≡ n + 1 = omega arith in ap below s) ∙ below-more n in
+    omega (arith, ap (sum_by g) a.is, sum_by-append g a.front (n ∷ a.back), sum_by-append g (n ∷ []) a.back, sum_by-append g a.front a.back, each_once_sum g n (a.front ++ a.back) rest, ap (sum_by g) more, sum_by-append g (below n) (n ∷ []))
+
+module _ {Out : Type 0} where
+  -- the run of a chunk that was run
+  run_of : (P : Run Out → Type 0) (runs : List (Run Out)) (i : ℕ) → 0 < times i (map (λ (r : Run Out). r.chunk) runs) → All P runs → (r : Run Out) × (r.chunk ≡ i) × P r
+  run_of P [] i h a = absurd (omega arith)
+  run_of P (r ∷ runs) i h a =
+      ⊎_elim
+      (λ (e : r.chunk ≡ i). (r, e, a 0 r (omega arith)))
+      (λ (ne : r.chunk ≡ i → ⊥).
+      let others = map (λ (r : Run Out). r.chunk) runs in
+      run_of P runs i (omega (arith, times-append i (r.chunk ∷ []) others, times_other i r.chunk (λ e. ne (sym e)), h)) (λ k d lt. a (suc k) d (omega arith)))
+      (cases_eq r.chunk i)
+
+  slice_get_below : (outs : List Out) (i : ℕ) (out : Out) → slice_get outs i ≡ Some out → i < length outs
+  slice_get_below [] i out e = absurd (cc)
+  slice_get_below (o ∷ outs) zero out e = omega arith
+  slice_get_below (o ∷ outs) (suc i) out e = omega (arith, slice_get_below outs i out e)
+
+  -- each result was given at its chunk
+  pub given_at : (gives : ℕ → Out → Log → Type 0) (chunks : ℕ) (old new : Log) (outs : List Out) (order : List ℕ) → EachRunOnce gives chunks old new outs order
+      → (i : ℕ) (out : Out) → slice_get outs i ≡ Some out → (added : Log) × gives i out added
+  given_at gives chunks old new outs order ran i out stored =
+      let lt : i < chunks = omega (arith, slice_get_below outs i out stored, ran.count) in
+      let one : times i order ≡ 1 = ran.once.once i lt in
+      let (r, at, is) = run_of (IsRun gives outs) ran.runs i (omega (arith, one, ap (times i) ran.order_is)) ran.each in
+      let got : Some r.out ≡ Some out = sym is.stored ∙ ap (slice_get outs) at ∙ stored in
+      let same : r.out ≡ out = cc in
+      (r.added, subst (λ o. gives i o r.added) same (subst (λ c. gives c r.out r.added) at is.gives_out))
