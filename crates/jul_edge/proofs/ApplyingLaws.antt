@@ -1,6 +1,10 @@
 -- Visits that apply a function: what was applied, in order, and what is noted.
 use Rattle.std.proofs.Common.{zero, suc, ◌≡◌, ℕ, ◌+◌, ◌<◌, ◌≤◌, List, [], ◌∷◌, ◌++◌, length, map, refl, ap, sym, ◌∙◌, subst, arith, All, Bool, true, false, if◌then◌else◌}
-use Rattle.std.proofs.lemmas.List.Elements.{All-nil, All-cons}
+use Rattle.std.proofs.Common.{inl, inr, ⊎_elim}
+use Rattle.std.specs.Prelude.{Contains}
+use Rattle.std.proofs.lemmas.Bool.{cases_Bool}
+use Rattle.std.proofs.lemmas.List.Elements.{All-nil, All-cons, All-head, All-tail}
+use Rattle.jul_base.proofs.SetLaws.{Contains-cons_cases}
 use Rattle.jul_base.specs.declared.graphs.RawGraph.{RawGraph}
 use Rattle.jul_base.specs.Logs.{Log, followed_by}
 use Rattle.jul_pool.specs.Added.{followed_by_all, HasAdded}
@@ -47,3 +51,19 @@ module _ {T : Type 0} (by : Direction) (g : RawGraph) (gives : Application → B
         record { by = a.applied.by; to_is = a.applied.to_is ∙ apps-map visited ∙ ap (map (app_of by g)) h.steps_are },
         a.noted_are,
       )
+
+-- the targets that were answered true are below n where all targets are
+pub answered_true-below : (n v : ℕ) (done : List (Done Application)) → All (λ (d : Done Application). d.to.target < n) done → Contains (answered_true (λ (a : Application). a.target) done) v → v < n
+answered_true-below n v [] each (k, lt, at) = absurd (omega arith)
+answered_true-below n v (d ∷ done) each h =
+    let P : Done Application → Type 0 = λ d. d.to.target < n in
+    let here : d.to.target < n = All-head P d done each in
+    let rest : Contains (answered_true (λ (a : Application). a.target) done) v → v < n = answered_true-below n v done (All-tail P d done each) in
+    elim (cases_Bool d.answer) [
+      | inl is ↦
+          ⊎_elim
+          (λ (same : d.to.target ≡ v). omega arith)
+          (λ (later : Contains (answered_true (λ (a : Application). a.target) done) v). rest later)
+          (Contains-cons_cases d.to.target (answered_true (λ (a : Application). a.target) done) v (rw is at h))
+      | inr not ↦ rest (rw not at h)
+    ]

@@ -4,3 +4,4 @@ pub mod ApplyingLaws
 pub mod PushLaws
 pub mod PushedLaws
 pub mod StampLaws
+pub mod PullLaws

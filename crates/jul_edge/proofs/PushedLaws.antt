@@ -67,6 +67,17 @@ drop_none : (xs : List ℕ) → drop 0 xs ≡ xs
 drop_none [] = refl
 drop_none (x ∷ xs) = refl
 
+module _ (by : Direction) (g : RawGraph) (members : List ℕ) (wanted : ℕ → Bool) (items : List ℕ) (size : ℕ) (apps : ℕ → List Application) (covers : (c : ℕ) → Covers by g members wanted (chunk_of items size c) (apps c)) where
+  -- where the chunks of some keys are covered, a wanted place is among all applications as often as its key is among the keys
+  pub cover_chunks : (chunks : ℕ) → length items ≤ chunks * size → (a : Application) → IsWanted by g members wanted a → times (key_of by a) items ≡ 1 → sum_by (λ c. sum_by (λ (b : Application). times a.place (b.place ∷ [])) (apps c)) (below chunks) ≡ 1
+  cover_chunks chunks enough a w one =
+      let h = λ (u : ℕ). times (key_of by a) (u ∷ []) in
+      let zero_plus : 0 + chunks ≡ chunks = omega arith in
+      let none : 0 * size ≡ 0 = omega arith in
+      let enough' : length items ≤ (0 + chunks) * size = subst (λ n. length items ≤ n * size) (sym zero_plus) enough in
+      sum_by_same _ (λ c. sum_by h (chunk_of items size c)) (below chunks) (λ c. places_sum a.place (apps c) ∙ (covers c).once a w ∙ sym (times_sum (key_of by a) (chunk_of items size c)))
+      ∙ chunks_weigh h items size 0 chunks enough' ∙ ap (λ n. sum_by h (drop n items)) none ∙ ap (sum_by h) (drop_none items) ∙ times_sum (key_of by a) items ∙ one
+
 module _ (gives : Application → Bool → Log → Type 0) (g : RawGraph) (round parts : ℕ) (members : List ℕ) (wanted : ℕ → Bool) where
   abbrev Gives : Application → Bool → Log → Type 0
   Gives = WantedGives Push g members wanted (StampedGives gives round parts)
@@ -110,16 +121,6 @@ module _ (gives : Application → Bool → Log → Type 0) (g : RawGraph) (round
     chunk_covers : (c : ℕ) → Covers Push g members wanted (chunk_of members size c) (Wanted c)
     chunk_covers c = push_covers g lawful members wanted (chunk_of members size c) (chunk_members (λ u. u < vertices g) members size c members_in)
 
-    -- each wanted place is among those of all chunks once
-    chunks_once : (chunks : ℕ) → length members ≤ chunks * size → (a : Application) → IsWanted Push g members wanted a → sum_by (λ c. sum_by (λ (b : Application). times a.place (b.place ∷ [])) (Wanted c)) (below chunks) ≡ 1
-    chunks_once chunks enough a w =
-        let h = λ (u : ℕ). times a.source (u ∷ []) in
-        let zero_plus : 0 + chunks ≡ chunks = omega arith in
-        let none : 0 * size ≡ 0 = omega arith in
-        let enough' : length members ≤ (0 + chunks) * size = subst (λ n. length members ≤ n * size) (sym zero_plus) enough in
-        sum_by_same _ (λ c. sum_by h (chunk_of members size c)) (below chunks) (λ c. places_sum a.place (Wanted c) ∙ (chunk_covers c).once a w ∙ sym (times_sum a.source (chunk_of members size c)))
-        ∙ chunks_weigh h members size 0 chunks enough' ∙ ap (λ n. sum_by h (drop n members)) none ∙ ap (sum_by h) (drop_none members) ∙ times_sum a.source members ∙ times_increasing a.source members increasing w.member
-
     pub pushed_all : (chunks : ℕ) (old new : Log) (seat_old seat_new : Seat) (outs : List (Vec ℕ Global)) (order : List ℕ) (noted : List ℕ) →
         EachRunOnce (NotesChunk Gives (λ (a : Application). a.target) Wanted) chunks (old ++ seat_old.log ∷ []) (new ++ seat_new.log ∷ []) outs order →
         length members ≤ chunks * size → length old ≡ parts → length new ≡ parts → noted ≡ flat_map (λ (o : Vec ℕ Global). o.items) outs →
@@ -135,7 +136,7 @@ module _ (gives : Application → Bool → Log → Type 0) (g : RawGraph) (round
           each = a.each;
           once = record {
             no_other = subst (All (IsWanted Push g members wanted)) (sym a.to_is) (All-map (IsWanted Push g members wanted) to all.done to_wanted);
-            once = λ b w. ap (λ l. times b.place (places_of l)) a.to_is ∙ sym (places_sum b.place (map to all.done)) ∙ all.once (λ (e : Application). times b.place (e.place ∷ [])) ∙ chunks_once chunks enough b w;
+            once = λ b w. ap (λ l. times b.place (places_of l)) a.to_is ∙ sym (places_sum b.place (map to all.done)) ∙ all.once (λ (e : Application). times b.place (e.place ∷ [])) ∙ cover_chunks Push g members wanted members size Wanted chunk_covers chunks enough b w (times_increasing b.source members increasing w.member);
           };
           log_is = both.0;
           stamps_are = let e : seat_new.log ∷ [] ≡ (seat_old.log ++ stamps round a.stamped) ∷ [] = both.1 in cc;

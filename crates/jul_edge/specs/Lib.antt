@@ -3,3 +3,4 @@ pub mod EdgeMaps
 pub mod Visits
 pub mod Covers
 pub mod Pushes
+pub mod Pulls
