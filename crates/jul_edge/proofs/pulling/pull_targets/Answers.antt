@@ -1,0 +1,17 @@
+use Rattle.std.proofs.Common.{◌≡◌, ◌-◌, ap, subst, sym, refl, arith, ℕ}
+use Rattle.std.specs.List.{range_with_len}
+use Rattle.jul_edge.specs.Visits.{wanted_steps, HasPushed}
+use Rattle.jul_edge.proofs.VisitLaws.{range_more, same_then, pushed_append}
+use Rattle.jul_edge.proofs.pulling.pull_targets.Goals as goal
+
+pub pull_target-requires-clause-can : goal.pull_target-requires-clause-can
+pull_target-requires-clause-can g c = λ w s at. c.loop-v.invariant.kept s (c.requires.can c.loop-v.v (omega arith) w s at)
+
+pub loop-v-preserved : goal.loop-v-preserved
+loop-v-preserved g c =
+    let was = c.loop-v.invariant in
+    let made = c.in_ok-pull_target.ensures in record {
+      pulled = pushed_append (g.V.Visit.visits c.args.visit.now) _ _ _ _ _ _ _ _ _ (range_more (wanted_steps c.args.in_rows.now c.args.from.now.members (g.V.Visit.wanted c.args.visit.now)) c.args.first c.loop-v.v (omega arith)) was.pulled made.pulled;
+      same = same_then g.V.Visit.home g.V.Visit.is_root g.V.Visit.out _ _ _ was.same made.same;
+      kept = λ s h. made.kept s (was.kept s h);
+    }

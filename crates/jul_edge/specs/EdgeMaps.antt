@@ -1,0 +1,49 @@
+-- What an edge map does, and which direction is chosen.
+use Rattle.std.specs.Prelude.{ℕ, ◌+◌, ◌/◌, ◌≤◌, ◌<◌, List, [], ◌++◌, ◌≡◌, ◌↔◌, Bool, true, false, length, map, All, Contains, sum_by, nat_lt, if◌then◌else◌}
+use Rattle.jul_base.specs.declared.graphs.RawGraph.{RawGraph}
+use Rattle.jul_base.specs.Graph.{vertices, places, row}
+use Rattle.jul_base.specs.Logs.{Log, Entry, STAMP}
+use Rattle.jul_words.specs.Seats.{Seat, IsSeatOf, IsAlone}
+use Rattle.jul_subset.specs.Subsets.{Subset}
+use Rattle.jul_subset.specs.Applications.{Done, answered_true, AppliedBy}
+use Rattle.jul_edge.specs.declared.functions.Direction.{Direction}
+use Rattle.jul_edge.specs.declared.functions.Direction.TheVariants.{Push, Pull}
+use Rattle.jul_edge.specs.Edges.{Application, IsWanted, AreWantedOnce}
+
+-- a pull gives a dense subset, a push a sparse one
+abbrev pub is_pull : Direction → Bool
+is_pull Push = false
+is_pull Pull = true
+
+-- the function was applied to each wanted place once and to no other, the log gained what each application added,
+-- together and in this order, and the subset has the targets that were answered true
+pub record IsMapped (by : Direction) (g : RawGraph) (members : List ℕ) (wanted : ℕ → Bool) (gives : Application → Bool → Log → Type 0) (old new : Log) (subset : Subset) : Type 0 where
+  pub done : List (Done Application)
+  pub applied : AppliedBy gives old new done
+  pub once : AreWantedOnce by g members wanted (map (λ (d : Done Application). d.to) done)
+  pub n : subset.n ≡ vertices g
+  pub form : subset.dense ≡ is_pull by
+  pub members_are : (v : ℕ) → Contains subset.members v ↔ Contains (answered_true (λ (a : Application). a.target) done) v
+
+-- the seat of a table with a word for each vertex, the root with none out, and the round is above all that it stamped
+pub record CanStamp (n : ℕ) (table : List ℕ) (round : ℕ) (s : Seat) : Type 0 where
+  pub of_table : IsSeatOf table s
+  pub words : length s.home.starts ≡ n
+  pub alone : IsAlone s
+  pub some : 1 ≤ round
+  pub above : All (λ (e : Entry). e.number < round) s.log
+
+-- behind the log of the seat stand stamps of this round alone, and none where it was a pull
+pub record HasStamped (by : Direction) (round : ℕ) (old new : Seat) : Type 0 where
+  pub entries : List Entry
+  pub seat_is : new ≡ record { home = old.home; root = old.root; out = old.out; log = old.log ++ entries }
+  pub of_round : All (λ (e : Entry). (e.kind ≡ STAMP) × (e.number ≡ round)) entries
+  pub none : by ≡ Pull → entries ≡ []
+
+-- the members and their places, counted
+abbrev pub reach : RawGraph → List ℕ → ℕ
+reach g members = length members + sum_by (λ u. length (row g u)) members
+
+-- by pull where members and places are more than a twentieth of all places
+abbrev pub direction_for : RawGraph → List ℕ → Direction
+direction_for g members = if nat_lt (places g / 20) (reach g members) then Pull else Push

@@ -1,0 +1,6 @@
+pub mod Edges
+pub mod EdgeMaps
+pub mod Visits
+pub mod Covers
+pub mod Pushes
+pub mod Pulls

@@ -1,0 +1,80 @@
+-- Places that loops visit one after another, whatever is done at each.
+use Rattle.std.specs.Prelude.{ℕ, ◌-◌, ◌<◌, List, [], ◌∷◌, ◌++◌, ◌≡◌, Bool, true, map, length, slice_index, All, Contains, if◌then◌else◌}
+use Rattle.std.specs.List.{filter, flat_map, range_with_len, slice_index_or}
+use Rattle.jul_base.specs.declared.graphs.RawGraph.{RawGraph}
+use Rattle.jul_base.specs.Graph.{target, row_start, row_end, IsPlaceOf}
+use Rattle.jul_base.specs.Logs.{Home}
+use Rattle.jul_base.specs.InRows.{InEdges}
+use Rattle.jul_base.specs.Sets.{has}
+
+-- a place with its source and its target
+pub record Step : Type 0 where
+  pub source : ℕ
+  pub place : ℕ
+  pub target : ℕ
+
+abbrev pub step : ℕ → ℕ → ℕ → Step
+step u p v = record { source = u; place = p; target = v }
+
+-- it is a place of u, to a target that is wanted
+pub record IsPushed (g : RawGraph) (wanted : ℕ → Bool) (u : ℕ) (s : Step) : Type 0 where
+  pub source_is : s.source ≡ u
+  pub place : IsPlaceOf g u s.place
+  pub target_is : s.target ≡ target g s.place
+  pub target_wanted : wanted s.target ≡ true
+
+-- it is a place that leads from a member to v
+pub record IsPulled (edges : InEdges) (members : List ℕ) (v : ℕ) (s : Step) : Type 0 where
+  pub target_is : s.target ≡ v
+  pub index : ℕ
+  pub in_row : index < length (slice_index_or edges.places v [])
+  pub place_is : s.place ≡ slice_index (slice_index_or edges.places v []) index
+  pub source_is : s.source ≡ slice_index (slice_index_or edges.sources v []) index
+  pub member : Contains members s.source
+
+-- a place that was visited, and whether its target is to be noted
+pub record Visited : Type 0 where
+  pub step : Step
+  pub noted : Bool
+
+-- the targets that are to be noted
+abbrev pub noted_of : List Visited → List ℕ
+noted_of [] = []
+noted_of (x ∷ xs) = if x.noted then x.step.target ∷ noted_of xs else noted_of xs
+
+-- the wanted places of u, in order
+abbrev pub push_steps : RawGraph → (ℕ → Bool) → ℕ → List Step
+push_steps g wanted u = filter (λ s. wanted s.target) (map (λ p. step u p (target g p)) (range_with_len (row_start g u) (row_end g u - row_start g u)))
+
+-- the places that lead from members to v, in order
+abbrev pub pull_steps : InEdges → List ℕ → ℕ → List Step
+pull_steps edges members v =
+    filter (λ s. has members s.source)
+    (map (λ k. step (slice_index (slice_index_or edges.sources v []) k) (slice_index (slice_index_or edges.places v []) k) v)
+    (range_with_len 0 (length (slice_index_or edges.places v []))))
+
+-- those places where v is wanted
+abbrev pub wanted_steps : InEdges → List ℕ → (ℕ → Bool) → ℕ → List Step
+wanted_steps edges members wanted v = if wanted v then pull_steps edges members v else []
+
+-- what no visit changes
+pub record IsSame {T : Type 0} (home : T → List Home) (is_root : T → Bool) (out : T → ℕ) (old new : T) : Type 0 where
+  pub home_is : home new ≡ home old
+  pub root_is : is_root new ≡ is_root old
+  pub out_is : out new ≡ out old
+
+module _ {T : Type 0} (visits : Visited → T → T → Type 0) where
+  abbrev pub VisitedInOrder : List Visited → T → T → Type 0
+  VisitedInOrder [] old new = new ≡ old
+  VisitedInOrder (x ∷ xs) old new = (mid : T) × visits x old mid × VisitedInOrder xs mid new
+
+  -- these were visited in this order
+  pub record HasVisited (steps : List Step) (old new : T) (visited : List Visited) : Type 0 where
+    pub in_order : VisitedInOrder visited old new
+    pub steps_are : map (λ (x : Visited). x.step) visited ≡ steps
+
+  -- and those to be noted stand behind what was noted before
+  pub record HasPushed (steps : List Step) (old new : T) (before after : List ℕ) : Type 0 where
+    pub visited : List Visited
+    pub has_visited : HasVisited steps old new visited
+    pub noted_are : after ≡ before ++ noted_of visited
