@@ -49,3 +49,10 @@ pub record IsLawful (g : RawGraph) : Type 0 where
   pub weights : length g.weights ≡ (if g.weighted then places g else 0)
   pub light : All (λ w. w ≤ MAX_W) g.weights
   pub empty : vertices g ≡ 0 → places g ≡ 0
+
+-- the lists of a graph are as long as they may be, and fit together
+pub record FitsSizes (g : RawGraph) : Type 0 where
+  pub few_vertices : vertices g ≤ MAX_N
+  pub few_places : places g ≤ MAX_M
+  pub weights : length g.weights ≡ (if g.weighted then places g else 0)
+  pub empty : vertices g ≡ 0 → places g ≡ 0

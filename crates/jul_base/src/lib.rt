@@ -8,6 +8,7 @@
 mod columns;
 mod gates;
 mod graphs;
+mod lawfulness;
 mod limits;
 mod loading;
 mod memory_calls;
