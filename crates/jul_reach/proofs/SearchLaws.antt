@@ -1,0 +1,196 @@
+-- A round of a search, and where it ends.
+use Rattle.std.proofs.Common.{◌≡◌, ◌≢◌, ◌↔◌, ◌⊎◌, ℕ, ◌+◌, ◌<◌, ◌≤◌, Bool, true, false, not, List, [], ◌∷◌, ◌++◌, length, get_or, set, replicate, take, drop, map, cond, sym, ◌∙◌, ap, subst, refl, arith, inl, inr}
+use Rattle.std.specs.List.{Contains, All, count_by}
+use Rattle.std.specs.List.Sorted.{IsStrictlyIncreasing}
+use Rattle.std.proofs.lemmas.Bool.{cases_eq, cases_lt, cases_Bool, both_ways, not-true, not_from_false}
+use Rattle.std.proofs.lemmas.List.{get_or-set_same, get_or-set_other, get_or-replicate, length-set, length-replicate, length-map, get_or-map, get_or_past}
+use Rattle.std.proofs.lemmas.List.Elements.{All-contains, All-weaker, All-append, All-nil, All-cons, All-head, All-tail, All-from_get_or, Contains-get_or}
+use Rattle.std.proofs.lemmas.List.Sums.{sum_by-set, count_by-le-length}
+use Rattle.std.proofs.Math.Seq.{take-append_seam}
+use Rattle.jul_base.specs.declared.graphs.RawGraph.{RawGraph}
+use Rattle.jul_base.specs.Graph.{vertices, target, weight, IsPlaceOf}
+use Rattle.jul_base.specs.Walks.{IsWalk}
+use Rattle.jul_base.specs.Logs.{Log, Entry, STAMP}
+use Rattle.jul_pool.specs.Times.{times}
+use Rattle.jul_base.proofs.WalkLaws.{IsWalk-push}
+use Rattle.jul_words.specs.Seats.{Seat}
+use Rattle.jul_subset.specs.Subsets.{Subset}
+use Rattle.jul_subset.specs.Applications.{Done}
+use Rattle.jul_edge.specs.declared.functions.Direction.{Direction}
+use Rattle.jul_edge.specs.Edges.{Application, application, IsWanted, places_of}
+use Rattle.jul_edge.specs.EdgeMaps.{IsMapped, CanStamp, HasStamped}
+use Rattle.jul_reach.specs.Reaching.{mark_at, IsReached}
+use Rattle.jul_reach.specs.Searching.{IsReaching, IsSearching, remaining}
+use Rattle.jul_reach.proofs.MarkLaws.{HasMarked}
+use Rattle.jul_reach.proofs.HitLaws.{Application_done, HasTarget, HasHit, hit_from, hit_at, targets_hit}
+
+-- ---- the end
+
+-- where the frontier is empty, marks go along walks
+along : (g : RawGraph) (source : ℕ) (marks : List Bool) → IsReaching g source marks [] → (ps : List ℕ) (u v : ℕ) → mark_at marks u ≡ true → IsWalk g u ps v → mark_at marks v ≡ true
+along g source marks h [] u v m walk = ap (mark_at marks) (sym walk) ∙ m
+along g source marks h (p ∷ ps) u v m (at, walk) =
+    elim (h.closed u p at m) [
+      | inl next ↦ along g source marks h ps (target g p) v next walk
+      | inr (k, lt, is) ↦ absurd (omega (arith, lt))
+    ]
+
+pub marks_reached : (g : RawGraph) (source : ℕ) (marks : List Bool) → IsReaching g source marks [] → (v : ℕ) → (mark_at marks v ≡ true) ↔ IsReached g source v
+marks_reached g source marks h v = (h.sound v, λ (ps, walk). along g source marks h ps source v h.begun walk)
+
+-- ---- the start
+
+none_at : (n v : ℕ) → mark_at (replicate n false) v ≡ false
+none_at n v = elim (cases_lt v n) [
+  | inl lt ↦ get_or-replicate n v false false lt
+  | inr past ↦ get_or_past (replicate n false) v false (omega (arith, past, length-replicate n false))
+]
+
+pub begun : (g : RawGraph) (source n : ℕ) → n ≡ vertices g → source < n → IsReaching g source (set (replicate n false) source true) (source ∷ [])
+begun g source n size lt =
+    let marks : List Bool = replicate n false in
+    let within : source < length marks = omega (arith, lt, length-replicate n false) in
+    let only : (v : ℕ) → mark_at (set marks source true) v ≡ true → v ≡ source = λ v m. elim (cases_eq v source) [
+      | inl e ↦ e
+      | inr ne ↦ absurd (both_ways _ (get_or-set_other marks source v true false ne ∙ none_at n v) m)
+    ] in
+    record {
+      size = length-set marks source true ∙ length-replicate n false ∙ size;
+      begun = get_or-set_same marks source true false within;
+      sound = λ v m. ([], sym (only v m));
+      marked = All-cons (λ v. mark_at (set marks source true) v ≡ true) source [] (get_or-set_same marks source true false within) (All-nil (λ v. mark_at (set marks source true) v ≡ true));
+      closed = λ u p at m. inr (subst (Contains (source ∷ [])) (sym (only u m)) (Contains-get_or (source ∷ []) 0 0 (omega arith)));
+    }
+
+pub begun_few : (n source : ℕ) → source < n → 1 + remaining (set (replicate n false) source true) (source ∷ []) ≤ n + 1
+begun_few n source lt =
+    let marks : List Bool = replicate n false in
+    let within : source < length marks = omega (arith, lt, length-replicate n false) in
+    let count : count_by not (set marks source true) + cond (not (get_or marks source false)) 1 0 ≡ count_by not marks + 0 = sum_by-set (λ b. cond (not b) 1 0) marks source true false within in
+    let one : cond {A = ℕ} (not (get_or marks source false)) 1 0 ≡ 1 = ap (λ b. cond {A = ℕ} (not b) 1 0) (none_at n source) in
+    omega (arith, count, one, count_by-le-length not marks, length-replicate n false)
+
+-- ---- a round
+
+All-from_map : (P : Application → Type 0) (done : List Application_done) → All P (map (λ (d : Application_done). d.to) done) → All (λ (d : Application_done). P d.to) done
+All-from_map P [] h = All-nil (λ (d : Application_done). P d.to)
+All-from_map P (d ∷ ds) h =
+    All-cons (λ (d : Application_done). P d.to) d ds (All-head P d.to (map (λ (d : Application_done). d.to) ds) h)
+    (All-from_map P ds (All-tail P d.to (map (λ (d : Application_done). d.to) ds) h))
+
+module _ (g : RawGraph) (source : ℕ) (by : Direction) (marks marks' : List Bool) (frontier : List ℕ) (subset : Subset) (gives : Application → Bool → Log → Type 0) (old new : Log) (always : (a : Application) (answer : Bool) (added : Log) → gives a answer added → answer ≡ true) (h : IsReaching g source marks frontier) (mapped : IsMapped by g frontier (λ v. not (mark_at marks v)) gives old new subset) where
+  abbrev Wanted : Application → Type 0
+  Wanted = IsWanted by g frontier (λ v. not (mark_at marks v))
+
+  made : All (λ (d : Application_done). Wanted d.to) mapped.done
+  made = All-from_map Wanted mapped.done mapped.once.no_other
+
+  answers : All (λ (d : Application_done). d.answer ≡ true) mapped.done
+  answers = All-weaker (λ (d : Application_done). gives d.to d.answer d.added) (λ (d : Application_done). d.answer ≡ true) (λ d given. always d.to d.answer d.added given) mapped.done mapped.applied.each
+
+  hit : (v : ℕ) → Contains subset.members v → HasTarget Wanted v
+  hit v there = hit_from Wanted mapped.done v made answers ((mapped.members_are v).0 there)
+
+  pub unmarked : (v : ℕ) → Contains subset.members v → mark_at marks v ≡ false
+  unmarked v there =
+      let t : HasTarget Wanted v = hit v there in
+      sym (ap (mark_at marks) t.target_is) ∙ not-true (mark_at marks t.app.target) t.holds.target_wanted
+
+  reached : (v : ℕ) → Contains subset.members v → IsReached g source v
+  reached v there =
+      let t : HasTarget Wanted v = hit v there in
+      let walk : IsReached g source t.app.source = h.sound t.app.source (All-contains (λ v. mark_at marks v ≡ true) frontier t.app.source h.marked t.holds.member) in
+      (walk.0 ++ t.app.place ∷ [], subst (IsWalk g source (walk.0 ++ t.app.place ∷ [])) (sym t.holds.target_is ∙ t.target_is) (IsWalk-push g source t.app.source t.app.place walk.0 walk.1 t.holds.place))
+
+  -- a place of the frontier leads to a vertex that was marked, or is hit
+  hits : (u p : ℕ) → IsPlaceOf g u p → Contains frontier u → mark_at marks (target g p) ≡ false → Contains subset.members (target g p)
+  hits u p at there free =
+      let a : Application = application by u p (target g p) (weight g p) in
+      let wanted : Wanted a = record { by_is = refl; member = there; place = at; target_is = refl; weight_is = refl; target_wanted = not_from_false (mark_at marks (target g p)) free } in
+      let once : times p (places_of (map (λ (d : Application_done). d.to) mapped.done)) ≡ 1 = mapped.once.once a wanted in
+      let found : HasHit Wanted (targets_hit mapped.done) p = hit_at Wanted mapped.done p made answers (omega (arith, once)) in
+      let same : found.app.target ≡ target g p = found.holds.target_is ∙ ap (target g) found.place_is in
+      (mapped.members_are (target g p)).1 (subst (Contains (targets_hit mapped.done)) same found.hit_is)
+
+  pub next : HasMarked marks marks' subset.members → length marks' ≡ length marks → IsReaching g source marks' subset.members
+  next done size = record {
+    size = size ∙ h.size;
+    begun = (done.marked source).1 (inl h.begun);
+    sound = λ v m. elim ((done.marked v).0 m) [ inl was ↦ h.sound v was | inr there ↦ reached v there ];
+    marked = All-from_get_or (λ v. mark_at marks' v ≡ true) subset.members 0 (λ k lt. (done.marked (get_or subset.members k 0)).1 (inr (Contains-get_or subset.members k 0 lt)));
+    closed = λ u p at m. elim ((done.marked u).0 m) [
+      | inr there ↦ inr there
+      | inl was ↦ elim (h.closed u p at was) [
+        | inl on ↦ inl ((done.marked (target g p)).1 (inl on))
+        | inr there ↦ elim (cases_Bool (mark_at marks (target g p))) [
+          | inl known ↦ inl ((done.marked (target g p)).1 (inl known))
+          | inr free ↦ inl ((done.marked (target g p)).1 (inr (hits u p at there free)))
+        ]
+      ]
+    ];
+  }
+
+-- the seat may stamp with the next round
+pub stamps_on : (n : ℕ) (table : List ℕ) (round : ℕ) (by : Direction) (old new : Seat) → CanStamp n table round old → HasStamped by round old new → CanStamp n table (round + 1) new
+stamps_on n table round by old new can has = record {
+  of_table = ap (λ (s : Seat). s.home.table) has.seat_is ∙ can.of_table;
+  words = ap (λ (s : Seat). length s.home.starts) has.seat_is ∙ can.words;
+  alone = (ap (λ (s : Seat). s.root) has.seat_is ∙ can.alone.0, ap (λ (s : Seat). s.out) has.seat_is ∙ can.alone.1);
+  some = omega arith;
+  above = subst (All (λ (e : Entry). e.number < round + 1)) (sym (ap (λ (s : Seat). s.log) has.seat_is))
+      (All-append (λ (e : Entry). e.number < round + 1) old.log has.entries
+      (All-weaker (λ (e : Entry). e.number < round) (λ (e : Entry). e.number < round + 1) (λ e lt. omega (arith, lt)) old.log can.above)
+      (All-weaker (λ (e : Entry). (e.kind ≡ STAMP) × (e.number ≡ round)) (λ (e : Entry). e.number < round + 1) (λ e is. omega (arith, is.1)) has.entries has.of_round));
+}
+
+-- what a write through a part of a vector leaves
+pub written : (after marks : List Bool) (len : ℕ) → length after ≡ len → take len (after ++ drop (length after) marks) ≡ after
+written after marks len e = ap (λ n. take n (after ++ drop (length after) marks)) (sym e) ∙ take-append_seam after (drop (length after) marks)
+
+-- one round: the seen marks, and those before the hit vertices got theirs, are the marks
+pub searched_on : (g : RawGraph) (source : ℕ) (table : List ℕ) (marks seen before after : List Bool) (frontier subset : Subset) (ids : List ℕ) (seat seat' : Seat) (round : ℕ) (by : Direction)
+    (gives : Application → Bool → Log → Type 0) (old new : Log) → ((a : Application) (answer : Bool) (added : Log) → gives a answer added → answer ≡ true) →
+    seen ≡ marks → before ≡ marks → ids ≡ subset.members → length after ≡ length before →
+    IsSearching g source table marks frontier seat round → 0 < length frontier.members → IsMapped by g frontier.members (λ v. not (mark_at seen v)) gives old new subset →
+    HasStamped by round seat seat' → HasMarked before after ids → IsSearching g source table after subset seat' (round + 1)
+searched_on g source table marks seen before after frontier subset ids seat seat' round by gives old new always seen_is before_is ids_are size h some mapped stamped marked =
+    let mapped' : IsMapped by g frontier.members (λ v. not (mark_at marks v)) gives old new subset = subst (λ m. IsMapped by g frontier.members (λ v. not (mark_at m v)) gives old new subset) seen_is mapped in
+    let here : HasMarked marks after ids = subst (λ m. HasMarked m after ids) before_is marked in
+    let done : HasMarked marks after subset.members = subst (HasMarked marks after) ids_are here in
+    record {
+      reaching = next g source by marks after frontier.members subset gives old new always h.reaching mapped' done (size ∙ ap length before_is);
+      n = mapped.n;
+      stamps = stamps_on (vertices g) table round by seat seat' h.stamps stamped;
+      few = omega (arith, h.few, some, done.fewer);
+    }
+
+-- the hit vertices have no mark yet
+pub hit_unmarked : (g : RawGraph) (source : ℕ) (table : List ℕ) (marks seen before : List Bool) (frontier subset : Subset) (ids : List ℕ) (seat : Seat) (round : ℕ) (by : Direction)
+    (gives : Application → Bool → Log → Type 0) (old new : Log) → ((a : Application) (answer : Bool) (added : Log) → gives a answer added → answer ≡ true) →
+    seen ≡ marks → before ≡ marks → ids ≡ subset.members → IsSearching g source table marks frontier seat round →
+    IsMapped by g frontier.members (λ v. not (mark_at seen v)) gives old new subset → All (λ v. mark_at before v ≡ false) ids
+hit_unmarked g source table marks seen before frontier subset ids seat round by gives old new always seen_is before_is ids_are h mapped =
+    let mapped' : IsMapped by g frontier.members (λ v. not (mark_at marks v)) gives old new subset = subst (λ m. IsMapped by g frontier.members (λ v. not (mark_at m v)) gives old new subset) seen_is mapped in
+    let free : All (λ v. mark_at marks v ≡ false) subset.members = All-from_get_or (λ v. mark_at marks v ≡ false) subset.members 0
+        (λ k lt. unmarked g source by marks marks frontier.members subset gives old new always h.reaching mapped' (get_or subset.members k 0) (Contains-get_or subset.members k 0 lt)) in
+    subst (All (λ v. mark_at before v ≡ false)) (sym ids_are) (subst (λ m. All (λ v. mark_at m v ≡ false) subset.members) (sym before_is) free)
+
+-- a search begins with the source alone
+pub begun_search : (g : RawGraph) (source : ℕ) (table : List ℕ) (seat : Seat) (n m : ℕ) (marks : List Bool) (ids : List ℕ) (frontier : Subset) →
+    marks ≡ replicate n false → n ≡ vertices g → m ≡ vertices g → ids ≡ source ∷ [] → frontier ≡ record { n = m; members = ids; dense = false } →
+    source < vertices g → CanStamp (vertices g) table 1 seat → IsSearching g source table (set marks source true) frontier seat 1
+begun_search g source table seat n m marks ids frontier marks_are n_is m_is ids_are frontier_is lt stamps =
+    let members_are : frontier.members ≡ source ∷ [] = ap (λ (s : Subset). s.members) frontier_is ∙ ids_are in
+    let start : IsReaching g source (set (replicate n false) source true) (source ∷ []) = begun g source n n_is (omega (arith, lt, n_is)) in
+    let few : 1 + remaining (set (replicate n false) source true) (source ∷ []) ≤ n + 1 = begun_few n source (omega (arith, lt, n_is)) in
+    record {
+      reaching = subst (λ xs. IsReaching g source (set marks source true) xs) (sym members_are) (subst (λ b. IsReaching g source (set b source true) (source ∷ [])) (sym marks_are) start);
+      n = ap (λ (s : Subset). s.n) frontier_is ∙ m_is;
+      stamps = stamps;
+      few = omega (arith, few, n_is, ap length members_are, ap (λ b. count_by not (set b source true)) marks_are);
+    }
+
+-- it ends where the frontier is empty
+pub ended : (g : RawGraph) (source : ℕ) (marks : List Bool) (frontier : List ℕ) → length frontier ≤ 0 → IsReaching g source marks frontier → (v : ℕ) → (mark_at marks v ≡ true) ↔ IsReached g source v
+ended g source marks [] none h = marks_reached g source marks h
+ended g source marks (x ∷ xs) none h = absurd (omega (arith, none))
