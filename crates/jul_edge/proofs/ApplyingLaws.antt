@@ -1,16 +1,18 @@
 -- Visits that apply a function: what was applied, in order, and what is noted.
-use Rattle.std.proofs.Common.{zero, suc, ◌≡◌, ℕ, ◌+◌, ◌<◌, ◌≤◌, List, [], ◌∷◌, ◌++◌, length, map, refl, ap, sym, ◌∙◌, subst, arith, All, Bool, true, false, if◌then◌else◌}
+use Rattle.std.proofs.Common.{◌≡◌, ℕ, ◌<◌, List, [], ◌∷◌, map, refl, ap, ◌∙◌, arith, All, Bool, if◌then◌else◌}
 use Rattle.std.proofs.Common.{inl, inr, ⊎_elim}
 use Rattle.std.specs.Prelude.{Contains}
 use Rattle.std.proofs.lemmas.Bool.{cases_Bool}
 use Rattle.std.proofs.lemmas.List.Elements.{All-nil, All-cons, All-head, All-tail}
 use Rattle.jul_base.proofs.SetLaws.{Contains-cons_cases}
 use Rattle.jul_base.specs.declared.graphs.RawGraph.{RawGraph}
-use Rattle.jul_base.specs.Logs.{Log, followed_by}
-use Rattle.jul_pool.specs.Added.{followed_by_all, HasAdded}
-use Rattle.jul_subset.specs.Applications.{Done, answered_true, AppliedBy, AppliedInOrder}
+use Rattle.jul_base.specs.Graph.{vertices, IsLawful}
+use Rattle.jul_base.specs.Logs.{Log}
+use Rattle.jul_base.proofs.GraphLaws.{place_in_range, target_in_range}
+use Rattle.jul_pool.specs.Added.{followed_by_all}
+use Rattle.jul_subset.specs.Applications.{Done, answered_true, AppliedInOrder}
 use Rattle.jul_edge.specs.declared.functions.Direction.{Direction}
-use Rattle.jul_edge.specs.Edges.{Application}
+use Rattle.jul_edge.specs.Edges.{Application, IsWanted}
 use Rattle.jul_edge.specs.Visits.{Step, Visited, noted_of, VisitedInOrder, HasVisited}
 use Rattle.jul_edge.specs.Covers.{app_of, Applies}
 
@@ -67,3 +69,7 @@ answered_true-below n v (d ∷ done) each h =
           (Contains-cons_cases d.to.target (answered_true (λ (a : Application). a.target) done) v (rw is at h))
       | inr not ↦ rest (rw not at h)
     ]
+
+-- the target of a wanted place is a vertex
+pub wanted_target : (by : Direction) (g : RawGraph) (members : List ℕ) (wanted : ℕ → Bool) (a : Application) → IsLawful g → IsWanted by g members wanted a → a.target < vertices g
+wanted_target by g members wanted a lawful w = omega (arith, w.target_is, target_in_range g lawful a.place (place_in_range g lawful a.source a.place w.place))

@@ -1,19 +1,19 @@
 -- How lists of applications that cover keys are put together, and that the wanted places of rows cover them.
-use Rattle.std.proofs.Common.{zero, suc, ◌≡◌, ◌≢◌, ℕ, ◌+◌, ◌-◌, ◌<◌, ◌≤◌, List, [], ◌∷◌, ◌++◌, length, map, refl, ap, sym, ◌∙◌, subst, arith, All, Bool, true, false, inl, inr, ⊎_elim}
+use Rattle.std.proofs.Common.{zero, suc, ◌≡◌, ◌≢◌, ℕ, ◌+◌, ◌-◌, ◌<◌, ◌≤◌, List, [], ◌∷◌, ◌++◌, map, refl, ap, sym, ◌∙◌, subst, arith, All, Bool, true, inl, inr, ⊎_elim}
 use Rattle.std.specs.Prelude.{Contains}
 use Rattle.std.specs.List.{filter, flat_map, range_with_len}
 use Rattle.std.proofs.lemmas.Bool.{cases_Bool, cases_eq}
 use Rattle.std.proofs.lemmas.List.{map-append}
 use Rattle.std.proofs.lemmas.List.Elements.{All-append, All-nil, All-cons, All-head, All-tail}
 use Rattle.jul_base.specs.declared.graphs.RawGraph.{RawGraph}
-use Rattle.jul_base.specs.Graph.{vertices, row_start, row_end, target, weight, IsPlaceOf, IsLawful}
+use Rattle.jul_base.specs.Graph.{vertices, row_start, row_end, target, IsPlaceOf, IsLawful}
 use Rattle.jul_base.proofs.GraphLaws.{row_start-le-row_end}
 use Rattle.jul_base.proofs.RowLaws.{IsPlaceOf-unique}
 use Rattle.jul_pool.specs.Times.{times}
 use Rattle.jul_pool.proofs.TimesLaws.{times-append, times_here, times_other}
 use Rattle.jul_edge.specs.declared.functions.Direction.{Direction}
-use Rattle.jul_edge.specs.declared.functions.Direction.TheVariants.{Push, Pull}
-use Rattle.jul_edge.specs.Edges.{Application, application, IsWanted, places_of}
+use Rattle.jul_edge.specs.declared.functions.Direction.TheVariants.{Push}
+use Rattle.jul_edge.specs.Edges.{Application, IsWanted, places_of}
 use Rattle.jul_edge.specs.Visits.{Step, step, push_steps}
 use Rattle.jul_edge.specs.Covers.{key_of, app_of, Covers}
 
@@ -46,18 +46,18 @@ module _ (by : Direction) (g : RawGraph) (f : ℕ → Step) (q : Step → Bool) 
   chosen_once p j a (suc n) lo hi at chosen one =
       ⊎_elim
       (λ (here : j ≡ a).
-          let at_a : (f a).place ≡ p = ap (λ i. (f i).place) (sym here) ∙ at in
-          let chosen_a : q (f a) ≡ true = ap (λ i. q (f i)) (sym here) ∙ chosen in
-          let rest : times p (places_of (Chosen (a + 1) n)) ≡ 0 = chosen_none p (a + 1) n (λ i i_lo i_hi e. let same : i ≡ j = one i (omega arith) (omega arith) e in omega arith) in
-          let head : times p ((f a).place ∷ []) ≡ 1 = times_here p (f a).place (sym at_a) in
-          rw chosen_a (omega (arith, rest, head, times-append p ((f a).place ∷ []) (places_of (Chosen (a + 1) n)))))
+      let at_a : (f a).place ≡ p = ap (λ i. (f i).place) (sym here) ∙ at in
+      let chosen_a : q (f a) ≡ true = ap (λ i. q (f i)) (sym here) ∙ chosen in
+      let rest : times p (places_of (Chosen (a + 1) n)) ≡ 0 = chosen_none p (a + 1) n (λ i i_lo i_hi e. let same : i ≡ j = one i (omega arith) (omega arith) e in omega arith) in
+      let head : times p ((f a).place ∷ []) ≡ 1 = times_here p (f a).place (sym at_a) in
+      rw chosen_a (omega (arith, rest, head, times-append p ((f a).place ∷ []) (places_of (Chosen (a + 1) n)))))
       (λ (later : j ≡ a → ⊥).
-          let rest : times p (places_of (Chosen (a + 1) n)) ≡ 1 = chosen_once p j (a + 1) n (grind arith) (omega arith) at chosen (λ i i_lo i_hi e. one i (omega arith) (omega arith) e) in
-          let head : times p ((f a).place ∷ []) ≡ 0 = times_other p (f a).place (λ e. later (sym (one a (omega arith) (omega arith) (sym e)))) in
-          elim (cases_Bool (q (f a))) [
-            | inl taken ↦ rw taken (omega (arith, rest, head, times-append p ((f a).place ∷ []) (places_of (Chosen (a + 1) n))))
-            | inr other ↦ rw other rest
-          ])
+      let rest : times p (places_of (Chosen (a + 1) n)) ≡ 1 = chosen_once p j (a + 1) n (grind arith) (omega arith) at chosen (λ i i_lo i_hi e. one i (omega arith) (omega arith) e) in
+      let head : times p ((f a).place ∷ []) ≡ 0 = times_other p (f a).place (λ e. later (sym (one a (omega arith) (omega arith) (sym e)))) in
+      elim (cases_Bool (q (f a))) [
+        | inl taken ↦ rw taken (omega (arith, rest, head, times-append p ((f a).place ∷ []) (places_of (Chosen (a + 1) n))))
+        | inr other ↦ rw other rest
+      ])
       (cases_eq j a)
 
 module _ (by : Direction) (g : RawGraph) (members : List ℕ) (wanted : ℕ → Bool) where
@@ -92,13 +92,13 @@ module _ (g : RawGraph) (lawful : IsLawful g) (members : List ℕ) (wanted : ℕ
         once = λ a w.
             ⊎_elim
             (λ (here : a.source ≡ u).
-                let P : ℕ → Type 0 = λ s. IsPlaceOf g s a.place in
-                let at : IsPlaceOf g u a.place = subst P here w.place in
-                let low : first ≤ a.place = at.from in
-                let high : a.place < first + n = omega (arith, at.to) in
-                chosen_once Push g f q a.place a.place first n low high refl (ap wanted (sym w.target_is) ∙ w.target_wanted) (λ i lo hi e. e) ∙ sym (times_here a.source u here))
+            let P : ℕ → Type 0 = λ s. IsPlaceOf g s a.place in
+            let at : IsPlaceOf g u a.place = subst P here w.place in
+            let low : first ≤ a.place = at.from in
+            let high : a.place < first + n = omega (arith, at.to) in
+            chosen_once Push g f q a.place a.place first n low high refl (ap wanted (sym w.target_is) ∙ w.target_wanted) (λ i lo hi e. e) ∙ sym (times_here a.source u here))
             (λ (other : a.source ≡ u → ⊥).
-                chosen_none Push g f q a.place first n (λ i lo hi e. other (let P : ℕ → Type 0 = λ p. IsPlaceOf g u p in IsPlaceOf-unique g lawful a.source u a.place w.place (subst P e (in_row i lo hi)))) ∙ sym (times_other a.source u other))
+            chosen_none Push g f q a.place first n (λ i lo hi e. other (let P : ℕ → Type 0 = λ p. IsPlaceOf g u p in IsPlaceOf-unique g lawful a.source u a.place w.place (subst P e (in_row i lo hi)))) ∙ sym (times_other a.source u other))
             (cases_eq a.source u);
       }
 

@@ -1,17 +1,17 @@
 -- A pull: the wanted places by their targets, its condition at each place, and what all chunks did together.
-use Rattle.std.proofs.Common.{zero, suc, ◌≡◌, ◌≢◌, ℕ, ◌+◌, ◌-◌, ◌*◌, ◌<◌, ◌≤◌, List, [], ◌∷◌, ◌++◌, length, map, take, drop, get_or, refl, ap, sym, ◌∙◌, subst, arith, All, Bool, true, false, inl, inr, ⊎_elim, Vec, Global}
-use Rattle.std.specs.Prelude.{Contains, slice_index, ◌↔◌, sum_by, min}
+use Rattle.std.proofs.Common.{zero, suc, ◌≡◌, ℕ, ◌+◌, ◌-◌, ◌*◌, ◌<◌, ◌≤◌, List, [], ◌∷◌, length, map, take, drop, refl, ap, sym, ◌∙◌, subst, arith, All, Bool, true, false, inl, inr, ⊎_elim, Vec, Global}
+use Rattle.std.specs.Prelude.{Contains, slice_index, ◌↔◌, min}
 use Rattle.std.specs.List.{flat_map, range_with_len, slice_index_or}
-use Rattle.std.proofs.lemmas.Bool.{cases_Bool, cases_eq, cases_lt}
+use Rattle.std.proofs.lemmas.Bool.{cases_Bool, cases_eq}
 use Rattle.std.proofs.lemmas.List.{map-append, get_or_default}
 use Rattle.std.proofs.lemmas.List.Elements.{All-take, All-drop, All-nil, All-head, All-tail, All-weaker, All-map, Contains-get_or}
 use Rattle.jul_base.specs.declared.graphs.RawGraph.{RawGraph}
 use Rattle.jul_base.specs.Graph.{vertices, places, target, IsPlaceOf, IsLawful}
-use Rattle.jul_base.specs.InRows.{InEdges, IsFlip, AreSources, in_places}
+use Rattle.jul_base.specs.InRows.{InEdges, IsFlip, in_places}
 use Rattle.jul_base.specs.Logs.{Log, Home}
 use Rattle.jul_base.specs.Numbers.{below}
 use Rattle.jul_base.specs.Sets.{has}
-use Rattle.jul_base.proofs.GraphLaws.{place_in_range, target_in_range}
+use Rattle.jul_base.proofs.GraphLaws.{place_in_range}
 use Rattle.jul_base.proofs.RowLaws.{IsPlaceOf-unique}
 use Rattle.jul_base.proofs.InRowLaws.{Contains-in_places, in_places-at, IsStrictlyIncreasing-in_places}
 use Rattle.jul_base.proofs.SetLaws.{Contains-from_has, has-from_Contains, Contains-below, IsStrictlyIncreasing-below}
@@ -31,7 +31,7 @@ use Rattle.std.specs.List.Sorted.{IsStrictlyIncreasing}
 use Rattle.jul_subset.specs.Chunks.{chunk_of}
 use Rattle.jul_edge.specs.Covers.{app_of, Covers, WantedGives}
 use Rattle.jul_edge.specs.EdgeMaps.{IsMapped}
-use Rattle.jul_edge.proofs.ApplyingLaws.{answered_true-below}
+use Rattle.jul_edge.proofs.ApplyingLaws.{answered_true-below, wanted_target}
 use Rattle.jul_edge.proofs.PushedLaws.{places_sum, times_increasing, cover_chunks}
 use Rattle.jul_edge.specs.Pulls.{MayPull, pulled_apps}
 use Rattle.jul_edge.proofs.CoverLaws.{chosen_all, chosen_none, chosen_once, covers_none, covers_append}
@@ -85,17 +85,17 @@ module _ (g : RawGraph) (lawful : IsLawful g) (edges : InEdges) (flip : IsFlip g
         once = λ a at.
             ⊎_elim
             (λ (here : a.target ≡ v).
-                let in_range : a.place < places g = place_in_range g lawful a.source a.place at.place in
-                let held : Contains (Ps v) a.place = let P : List ℕ → Type 0 = λ l. Contains l a.place in subst P (sym is) (Contains-in_places g v a.place in_range (sym at.target_is ∙ here)) in
-                let j = held.0 in
-                let lt : j < length (Ps v) = held.1 in
-                let place_is : slice_index (Ps v) j ≡ a.place = get_or_default (Ps v) j 0 a.place lt ∙ held.2 in
-                let own : IsPlaceOf g (slice_index (Us v) j) a.place = let P : ℕ → Type 0 = λ p. IsPlaceOf g (slice_index (Us v) j) p in subst P place_is (source_at v vertex j lt) in
-                let source_is : slice_index (Us v) j ≡ a.source = IsPlaceOf-unique g lawful (slice_index (Us v) j) a.source a.place own at.place in
-                chosen_once Pull g f q a.place j 0 n (omega arith) (omega arith) place_is (ap (has members) source_is ∙ has-from_Contains members a.source at.member) (λ i lo hi e. apart (Ps v) rises i j (omega arith) lt (e ∙ sym place_is))
-                ∙ sym (times_here a.target v here))
+            let in_range : a.place < places g = place_in_range g lawful a.source a.place at.place in
+            let held : Contains (Ps v) a.place = let P : List ℕ → Type 0 = λ l. Contains l a.place in subst P (sym is) (Contains-in_places g v a.place in_range (sym at.target_is ∙ here)) in
+            let j = held.0 in
+            let lt : j < length (Ps v) = held.1 in
+            let place_is : slice_index (Ps v) j ≡ a.place = get_or_default (Ps v) j 0 a.place lt ∙ held.2 in
+            let own : IsPlaceOf g (slice_index (Us v) j) a.place = let P : ℕ → Type 0 = λ p. IsPlaceOf g (slice_index (Us v) j) p in subst P place_is (source_at v vertex j lt) in
+            let source_is : slice_index (Us v) j ≡ a.source = IsPlaceOf-unique g lawful (slice_index (Us v) j) a.source a.place own at.place in
+            chosen_once Pull g f q a.place j 0 n (omega arith) (omega arith) place_is (ap (has members) source_is ∙ has-from_Contains members a.source at.member) (λ i lo hi e. apart (Ps v) rises i j (omega arith) lt (e ∙ sym place_is))
+            ∙ sym (times_here a.target v here))
             (λ (other : a.target ≡ v → ⊥).
-                chosen_none Pull g f q a.place 0 n (λ i lo hi e. other (at.target_is ∙ ap (target g) (sym e) ∙ target_at v vertex i (omega arith))) ∙ sym (times_other a.target v other))
+            chosen_none Pull g f q a.place 0 n (λ i lo hi e. other (at.target_is ∙ ap (target g) (sym e) ∙ target_at v vertex i (omega arith))) ∙ sym (times_other a.target v other))
             (cases_eq a.target v);
       }
 
@@ -171,7 +171,7 @@ module _ (gives : Application → Bool → Log → Type 0) (g : RawGraph) (lawfu
 
     pub pull_noted_in : All (λ v. v < vertices g) noted
     pull_noted_in k d lt =
-        answered_true-below (vertices g) _ _ (All-weaker (λ (d : Done Application). IsWanted Pull g members wanted d.to) (λ (d : Done Application). d.to.target < vertices g) (λ d w. omega (arith, w.target_is, target_in_range g lawful d.to.place (place_in_range g lawful d.to.source d.to.place w.place))) _ to_wanted)
+        answered_true-below (vertices g) _ _ (All-weaker (λ (d : Done Application). IsWanted Pull g members wanted d.to) (λ (d : Done Application). d.to.target < vertices g) (λ d w. wanted_target Pull g members wanted d.to lawful w) _ to_wanted)
         ((noted_are _).0 (Contains-get_or noted k d lt))
 
     pub pulled_all : (subset : Subset) → subset.n ≡ vertices g → subset.dense ≡ true → ((v : ℕ) → Contains subset.members v ↔ Contains noted v) → IsMapped Pull g members wanted gives old new subset
@@ -185,7 +185,7 @@ module _ (gives : Application → Bool → Log → Type 0) (g : RawGraph) (lawfu
           once = record {
             no_other = All-map (IsWanted Pull g members wanted) to all.done to_wanted;
             once = λ b w.
-                let small : b.target < vertices g = omega (arith, w.target_is, target_in_range g lawful b.place (place_in_range g lawful b.source b.place w.place)) in
+                let small : b.target < vertices g = wanted_target Pull g members wanted b lawful w in
                 sym (places_sum b.place (map to all.done)) ∙ all.once (λ (e : Application). times b.place (e.place ∷ []))
                 ∙ cover_chunks Pull g members wanted (below (vertices g)) size Wanted covers chunks whole b w (times_increasing b.target (below (vertices g)) (IsStrictlyIncreasing-below (vertices g)) (Contains-below (vertices g) b.target small));
           };

@@ -1,7 +1,6 @@
 -- A push: its condition at each place.
-use Rattle.std.proofs.Common.{zero, suc, ◌≡◌, ℕ, ◌+◌, ◌*◌, ◌<◌, ◌≤◌, List, [], ◌∷◌, ◌++◌, length, map, take, drop, refl, ap, sym, ◌∙◌, subst, arith, All, Bool, true, false, if◌then◌else◌}
+use Rattle.std.proofs.Common.{zero, suc, ◌≡◌, ℕ, ◌*◌, ◌<◌, ◌≤◌, List, [], ◌∷◌, ◌++◌, length, map, drop, refl, ap, sym, ◌∙◌, subst, arith, All, Bool, false}
 use Rattle.std.specs.Prelude.{Contains}
-use Rattle.std.specs.List.{flat_map}
 use Rattle.std.proofs.Common.{le_refl, append-nil}
 use Rattle.std.proofs.lemmas.List.{length-replicate}
 use Rattle.std.proofs.lemmas.List.Elements.{All-take, All-drop, All-nil, All-cons, All-head, All-tail, Contains-get_or}
@@ -50,12 +49,12 @@ chunk_members P members size c each =
     let Q : ℕ → Type 0 = λ u. P u × Contains members u in
     All-take Q size (drop (c * size) members) (All-drop Q (c * size) members (λ k d lt. (each k d lt, Contains-get_or members k d lt)))
 
-All-to : (P : Application → Type 0) (done : List (Done Application)) (apps : List Application) → map (λ (d : Done Application). d.to) done ≡ apps → All P apps → All (λ (d : Done Application). P d.to) done
+pub All-to : (P : Application → Type 0) (done : List (Done Application)) (apps : List Application) → map (λ (d : Done Application). d.to) done ≡ apps → All P apps → All (λ (d : Done Application). P d.to) done
 All-to P done apps e all = All-from_map P done (subst (All P) (sym e) all)
   where
-  All-from_map : (P : Application → Type 0) (ds : List (Done Application)) → All P (map (λ (d : Done Application). d.to) ds) → All (λ (d : Done Application). P d.to) ds
-  All-from_map P [] h = All-nil _
-  All-from_map P (d ∷ ds) h = All-cons (λ (d : Done Application). P d.to) d ds (All-head P d.to (map (λ (d : Done Application). d.to) ds) h) (All-from_map P ds (All-tail P d.to (map (λ (d : Done Application). d.to) ds) h))
+    All-from_map : (P : Application → Type 0) (ds : List (Done Application)) → All P (map (λ (d : Done Application). d.to) ds) → All (λ (d : Done Application). P d.to) ds
+    All-from_map P [] h = All-nil _
+    All-from_map P (d ∷ ds) h = All-cons (λ (d : Done Application). P d.to) d ds (All-head P d.to (map (λ (d : Done Application). d.to) ds) h) (All-from_map P ds (All-tail P d.to (map (λ (d : Done Application). d.to) ds) h))
 
 -- what the visits of a chunk give, where they are to wanted places
 pub run_gives : {T : Type 0} (by : Direction) (g : RawGraph) (members : List ℕ) (wanted : ℕ → Bool) (gives : Application → Bool → Log → Type 0) (log : T → Log) (steps : List Step) (apps : List Application) (old new : T) (before after : List ℕ) →

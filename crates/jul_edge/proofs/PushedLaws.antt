@@ -1,9 +1,8 @@
 -- What all chunks of a push did together.
-use Rattle.std.proofs.Common.{zero, suc, ◌≡◌, ◌≢◌, ℕ, ◌+◌, ◌*◌, ◌<◌, ◌≤◌, List, [], ◌∷◌, ◌++◌, length, map, take, drop, get_or, refl, ap, sym, ◌∙◌, subst, arith, All, Bool, true, false, if◌then◌else◌, Vec, Global, append-nil, ⊎_elim}
+use Rattle.std.proofs.Common.{suc, ◌≡◌, ℕ, ◌+◌, ◌*◌, ◌<◌, ◌≤◌, List, [], ◌∷◌, ◌++◌, length, map, drop, get_or, refl, ap, sym, ◌∙◌, subst, arith, All, Bool, false, if◌then◌else◌, Vec, Global, append-nil, ⊎_elim}
 use Rattle.std.specs.Prelude.{Contains, sum_by, ◌↔◌}
-use Rattle.std.specs.List.{flat_map, AllPairs}
+use Rattle.std.specs.List.{flat_map}
 use Rattle.std.specs.List.Sorted.{IsStrictlyIncreasing}
-use Rattle.std.proofs.lemmas.Bool.{cases_eq}
 use Rattle.std.proofs.lemmas.List.{append_assoc}
 use Rattle.std.proofs.lemmas.List.Sums.{sum_by-append}
 use Rattle.std.proofs.lemmas.List.Elements.{All-map, All-nil, All-cons, All-head, All-tail}
@@ -25,9 +24,9 @@ use Rattle.jul_subset.proofs.ApplicationLaws.{NotesChunk, all_gathered}
 use Rattle.jul_subset.proofs.PickingLaws.{same_holds, chunks_weigh}
 use Rattle.jul_edge.specs.declared.functions.Direction.{Direction}
 use Rattle.jul_edge.specs.declared.functions.Direction.TheVariants.{Push}
-use Rattle.jul_edge.specs.Edges.{Application, IsWanted, AreWantedOnce, places_of}
+use Rattle.jul_edge.specs.Edges.{Application, IsWanted, places_of}
 use Rattle.jul_edge.specs.Covers.{Covers, key_of, WantedGives}
-use Rattle.jul_edge.specs.Pushes.{StampedGives, Stamped, stamps, stamp_of, firsts, pushed_apps, no_entries, PushedAll}
+use Rattle.jul_edge.specs.Pushes.{StampedGives, Stamped, stamps, stamp_of, firsts, pushed_apps, PushedAll}
 use Rattle.jul_edge.proofs.CoverLaws.{push_covers}
 use Rattle.jul_edge.proofs.PushLaws.{chunk_members, followed_by-both, length-kept}
 
@@ -59,8 +58,8 @@ times_increasing x (y ∷ ys) up held =
     ⊎_elim
     (λ (here : y ≡ x). let above_x : All (λ z. x < z) ys = subst (λ w. All (λ z. w < z) ys) here above in omega (arith, times-append x (y ∷ []) ys, times_here x y (sym here), times_above x ys above_x))
     (λ (later : Contains ys x).
-        let past : y < x = let (k, lt, at) = later in omega (arith, above k x lt, at) in
-        omega (arith, times-append x (y ∷ []) ys, times_other x y (λ e. omega arith), times_increasing x ys rest_up later))
+    let past : y < x = let (k, lt, at) = later in omega (arith, above k x lt, at) in
+    omega (arith, times-append x (y ∷ []) ys, times_other x y (λ e. omega arith), times_increasing x ys rest_up later))
     (Contains-cons_cases y ys x held)
 
 drop_none : (xs : List ℕ) → drop 0 xs ≡ xs

@@ -1,12 +1,11 @@
 -- The stamps of one round, behind those of earlier rounds: each target that was answered true has a first stamp.
-use Rattle.std.proofs.Common.{zero, suc, ◌≡◌, ℕ, ◌+◌, ◌<◌, ◌≤◌, ◌≢◌, List, [], ◌∷◌, ◌++◌, length, map, refl, ap, sym, ◌∙◌, subst, arith, All, Bool, true, false, if◌then◌else◌, max, inl, inr, ⊎_elim}
+use Rattle.std.proofs.Common.{◌≡◌, ℕ, ◌+◌, ◌<◌, ◌≤◌, ◌≢◌, List, [], ◌∷◌, ◌++◌, length, map, refl, ap, sym, ◌∙◌, subst, arith, All, Bool, true, false, inl, inr, ⊎_elim}
 use Rattle.std.specs.Prelude.{Contains, ◌↔◌}
 use Rattle.std.proofs.lemmas.Bool.{cases_Bool, cases_lt, cases_eq}
 use Rattle.std.proofs.lemmas.List.Elements.{All-map, All-nil, All-cons, All-head, All-tail, Contains-get_or, All-append, All-weaker}
 use Rattle.jul_base.specs.declared.graphs.RawGraph.{RawGraph}
-use Rattle.jul_base.specs.Graph.{vertices, places, target, IsLawful}
+use Rattle.jul_base.specs.Graph.{vertices, IsLawful}
 use Rattle.jul_base.specs.Logs.{Log, Entry, Home, STAMP}
-use Rattle.jul_base.proofs.GraphLaws.{place_in_range, target_in_range}
 use Rattle.jul_base.proofs.SetLaws.{Contains-cons, Contains-cons_cases}
 use Rattle.jul_pool.specs.Added.{followed_by_all}
 use Rattle.jul_words.specs.Weights.{weigh, counted}
@@ -21,7 +20,9 @@ use Rattle.jul_subset.specs.Applications.{Done, answered_true}
 use Rattle.jul_edge.specs.declared.functions.Direction.TheVariants.{Push}
 use Rattle.jul_edge.specs.Edges.{Application, IsWanted, AreWantedOnce}
 use Rattle.jul_edge.specs.EdgeMaps.{IsMapped, CanStamp, HasStamped}
-use Rattle.jul_edge.specs.Pushes.{Stamped, stamps, stamp_of, firsts, PushedAll}
+use Rattle.jul_edge.proofs.ApplyingLaws.{answered_true-below, wanted_target}
+use Rattle.jul_edge.proofs.PushLaws.{All-to}
+use Rattle.jul_edge.specs.Pushes.{Stamped, stamps, firsts, PushedAll}
 
 abbrev answered : List Stamped → List ℕ
 answered xs = answered_true (λ (a : Application). a.target) (map (λ (x : Stamped). x.done) xs)
@@ -58,19 +59,19 @@ marked_first v round (x ∷ xs) h =
     let t = x.done.to.target in
     let e : Entry = entry STAMP t round (counted x.first) in
     let later : 0 < weigh (is_marked v round) (stamps round xs) → Contains (firsts (x ∷ xs)) v = λ more.
-        let rest : Contains (firsts xs) v = marked_first v round xs more in
-        elim (cases_Bool x.first) [
-          | inl is ↦ rw is (Contains-cons t (firsts xs) v rest)
-          | inr not ↦ rw not rest
-        ] in
+    let rest : Contains (firsts xs) v = marked_first v round xs more in
+    elim (cases_Bool x.first) [
+      | inl is ↦ rw is (Contains-cons t (firsts xs) v rest)
+      | inr not ↦ rw not rest
+    ] in
     elim (cases_Bool x.done.answer) [
       | inl is ↦
           let h' : 0 < is_marked v round e + weigh (is_marked v round) (stamps round xs) = rw is at h in
           ⊎_elim
           (λ (some : 0 < is_marked v round e).
-              let p = mark_parts v round e some in
-              let first : x.first ≡ true = counted_one x.first p.2 in
-              rw first (0, omega arith, p.0))
+          let p = mark_parts v round e some in
+          let first : x.first ≡ true = counted_one x.first p.2 in
+          rw first (0, omega arith, p.0))
           (λ (none : is_marked v round e ≤ 0). later (omega arith))
           (cases_lt 0 (is_marked v round e))
       | inr not ↦ later (rw not at h)
@@ -138,31 +139,20 @@ answered_first v round old xs above some marks h =
     let one : weigh (is_marked v round) log ≡ 1 = subst (λ r. weigh (is_marked v r) log ≡ 1) is (marks.reached (omega arith)) in
     marked_first v round xs (omega (arith, one, weigh-append (is_marked v round) old (stamps round xs), no_mark_below v round old above))
 
-answered-below : (n v : ℕ) (xs : List Stamped) → All (λ (a : Application). a.target < n) (map (λ (x : Stamped). x.done.to) xs) → Contains (answered xs) v → v < n
-answered-below n v [] each (k, lt, at) = absurd (omega arith)
-answered-below n v (x ∷ xs) each h =
-    let P : Application → Type 0 = λ a. a.target < n in
-    let here : x.done.to.target < n = All-head P x.done.to (map (λ (x : Stamped). x.done.to) xs) each in
-    let rest : Contains (answered xs) v → v < n = answered-below n v xs (All-tail P x.done.to (map (λ (x : Stamped). x.done.to) xs) each) in
-    elim (cases_Bool x.done.answer) [
-      | inl is ↦
-          ⊎_elim
-          (λ (same : x.done.to.target ≡ v). omega arith)
-          (λ (later : Contains (answered xs) v). rest later)
-          (Contains-cons_cases x.done.to.target (answered xs) v (rw is at h))
-      | inr not ↦ rest (rw not at h)
-    ]
-
 map-map : (f : Done Application → Log) (h : Done Application → Application) (xs : List Stamped) → (map f (map (λ (x : Stamped). x.done) xs) ≡ map (λ (x : Stamped). f x.done) xs) × (map h (map (λ (x : Stamped). x.done) xs) ≡ map (λ (x : Stamped). h x.done) xs)
 map-map f h [] = (refl, refl)
 map-map f h (x ∷ xs) = let r = map-map f h xs in (ap (λ l. f x.done ∷ l) r.0, ap (λ l. h x.done ∷ l) r.1)
 
 module _ (gives : Application → Bool → Log → Type 0) (g : RawGraph) (lawful : IsLawful g) (round : ℕ) (members : List ℕ) (wanted : ℕ → Bool) (old new : Log) (seat_old seat_new : Seat) (noted : List ℕ) (p : PushedAll gives g round members wanted old new seat_old seat_new noted) where
-  targets_in : All (λ (a : Application). a.target < vertices g) (map (λ (x : Stamped). x.done.to) p.stamped)
-  targets_in = All-weaker (IsWanted Push g members wanted) (λ (a : Application). a.target < vertices g) (λ a w. omega (arith, w.target_is, target_in_range g lawful a.place (place_in_range g lawful a.source a.place w.place))) _ p.once.no_other
+  answered_in : (v : ℕ) → Contains (answered p.stamped) v → v < vertices g
+  answered_in v h =
+      let done = map (λ (x : Stamped). x.done) p.stamped in
+      let P : Application → Type 0 = λ a. a.target < vertices g in
+      let each = All-weaker (IsWanted Push g members wanted) P (λ a w. wanted_target Push g members wanted a lawful w) _ p.once.no_other in
+      answered_true-below (vertices g) v done (All-to P done _ (map-map (λ (d : Done Application). d.added) (λ (d : Done Application). d.to) p.stamped).1 each) h
 
   pub noted_in : All (λ v. v < vertices g) noted
-  noted_in k d lt = answered-below (vertices g) _ p.stamped targets_in (first_answered gives _ p.stamped p.each ((p.noted_are _).0 (Contains-get_or noted k d lt)))
+  noted_in k d lt = answered_in _ (first_answered gives _ p.stamped p.each ((p.noted_are _).0 (Contains-get_or noted k d lt)))
 
   pub has_stamped : seat_new.home ≡ seat_old.home → seat_new.root ≡ seat_old.root → seat_new.out ≡ seat_old.out → HasStamped Push round seat_old seat_new
   has_stamped h r o = record {
@@ -188,7 +178,7 @@ module _ (gives : Application → Bool → Log → Type 0) (g : RawGraph) (lawfu
         members_are = λ v. (
           (λ h. first_answered gives v p.stamped p.each ((p.noted_are v).0 ((has v).0 h))),
           (λ h.
-              let small : v < vertices g = answered-below (vertices g) v p.stamped targets_in h in
+              let small : v < vertices g = answered_in v h in
               let word : v < length seat_new.home.starts = omega (arith, ap (λ (z : Home). length z.starts) home, can.words) in
               let here : Firsts v (seat_old.log ++ stamps round p.stamped) = subst (Firsts v) p.stamps_are (marks v word) in
               (has v).1 ((p.noted_are v).1 (answered_first v round seat_old.log p.stamped can.above can.some here h))),

@@ -1,7 +1,7 @@
 -- How places that were visited are put one behind another.
 use Rattle.std.proofs.Common.{zero, suc, ◌≡◌, ℕ, ◌+◌, ◌-◌, ◌<◌, ◌≤◌, List, [], ◌∷◌, ◌++◌, length, map, take, get_or, refl, ap, sym, ◌∙◌, subst, arith, Bool, true, false, if◌then◌else◌}
 use Rattle.std.specs.Prelude.{◌↔◌, IsTrue, Contains}
-use Rattle.std.proofs.Common.{inl, inr, All, ◌⊎◌}
+use Rattle.std.proofs.Common.{inl, inr}
 use Rattle.std.proofs.lemmas.Bool.{cases_Bool}
 use Rattle.jul_base.proofs.SetLaws.{has-from_Contains, Contains-from_has}
 use Rattle.std.proofs.lemmas.Grind.{flat_map-append}

@@ -8,7 +8,7 @@ use Rattle.jul_subset.specs.Subsets.{Subset}
 use Rattle.jul_subset.specs.Applications.{Done, answered_true, AppliedBy}
 use Rattle.jul_edge.specs.declared.functions.Direction.{Direction}
 use Rattle.jul_edge.specs.declared.functions.Direction.TheVariants.{Push, Pull}
-use Rattle.jul_edge.specs.Edges.{Application, IsWanted, AreWantedOnce}
+use Rattle.jul_edge.specs.Edges.{Application, AreWantedOnce}
 
 -- a pull gives a dense subset, a push a sparse one
 abbrev pub is_pull : Direction → Bool

@@ -1,5 +1,5 @@
 -- What a pull does in each chunk, and what it asks of its caller.
-use Rattle.std.specs.Prelude.{ℕ, ◌<◌, List, ◌≡◌, Bool, length, map, All}
+use Rattle.std.specs.Prelude.{ℕ, ◌<◌, List, Bool, map}
 use Rattle.std.specs.List.{flat_map}
 use Rattle.jul_base.specs.declared.graphs.RawGraph.{RawGraph}
 use Rattle.jul_base.specs.Graph.{vertices, IsLawful}

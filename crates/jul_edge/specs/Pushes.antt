@@ -1,5 +1,5 @@
 -- What a push does: at each place, in each chunk, and what it asks of its caller.
-use Rattle.std.specs.Prelude.{ℕ, ◌+◌, ◌<◌, ◌≤◌, List, [], ◌∷◌, ◌++◌, ◌≡◌, Bool, true, false, length, map, replicate, All, Contains, ◌↔◌, ◌&&◌, if◌then◌else◌}
+use Rattle.std.specs.Prelude.{ℕ, ◌<◌, ◌≤◌, List, [], ◌∷◌, ◌++◌, ◌≡◌, Bool, false, length, map, replicate, All, Contains, ◌↔◌, if◌then◌else◌}
 use Rattle.std.specs.List.{flat_map}
 use Rattle.jul_base.specs.declared.graphs.RawGraph.{RawGraph}
 use Rattle.jul_base.specs.Graph.{vertices, IsLawful}
@@ -8,7 +8,6 @@ use Rattle.jul_pool.specs.Added.{followed_by_all}
 use Rattle.jul_words.specs.Weights.{counted}
 use Rattle.jul_words.specs.Seats.{Seat, entry}
 use Rattle.jul_subset.specs.Applications.{Done}
-use Rattle.jul_subset.specs.Chunks.{chunk_of}
 use Rattle.jul_edge.specs.declared.functions.Direction.TheVariants.{Push}
 use Rattle.jul_edge.specs.Edges.{Application, IsWanted, AreWantedOnce}
 use Rattle.jul_edge.specs.Visits.{push_steps}

@@ -1,6 +1,6 @@
 -- Places that loops visit one after another, whatever is done at each.
-use Rattle.std.specs.Prelude.{ℕ, ◌-◌, ◌<◌, List, [], ◌∷◌, ◌++◌, ◌≡◌, Bool, true, map, length, slice_index, All, Contains, if◌then◌else◌}
-use Rattle.std.specs.List.{filter, flat_map, range_with_len, slice_index_or}
+use Rattle.std.specs.Prelude.{ℕ, ◌-◌, ◌<◌, List, [], ◌∷◌, ◌++◌, ◌≡◌, Bool, true, map, length, slice_index, Contains, if◌then◌else◌}
+use Rattle.std.specs.List.{filter, range_with_len, slice_index_or}
 use Rattle.jul_base.specs.declared.graphs.RawGraph.{RawGraph}
 use Rattle.jul_base.specs.Graph.{target, row_start, row_end, IsPlaceOf}
 use Rattle.jul_base.specs.Logs.{Home}

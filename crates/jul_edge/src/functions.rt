@@ -39,7 +39,15 @@ pub trait EdgeFn: Sync {
 
     /// Answers whether `v` is to be in the subset that is made. The edge at `place` leads from `u` to `v` and has the
     /// weight `w`. Of the token only the log changes.
-    fn apply(&self, token: &mut Self::Token, by: Direction, u: u32, place: u32, v: u32, w: u32) -> bool
+    fn apply(
+        &self,
+        token: &mut Self::Token,
+        by: Direction,
+        u: u32,
+        place: u32,
+        v: u32,
+        w: u32,
+    ) -> bool
         requires { can_apply self.now (application by u place v w) (Self.Token.home token.old) }
 
         ensures gives { HasAdded (gives self.now (application by u place v w))

@@ -88,7 +88,15 @@ impl<'a, F: EdgeFn> Job for PullJob<'a, F> {
         let first = chunk * self.size;
         let last = n.min(first + self.size);
         let mut noted = Vec::new(self.alloc);
-        pull_targets(self.in_rows, self.from, &self.visit, first, last, token, &mut noted)?;
+        pull_targets(
+            self.in_rows,
+            self.from,
+            &self.visit,
+            first,
+            last,
+            token,
+            &mut noted,
+        )?;
         Ok(noted)
     }
 }

@@ -91,7 +91,11 @@ impl<'a, F: EdgeFn> Job for PushJob<'a, F> {
         (pushed_apps j.visit.rows.now (F.wanted j.visit.f.now) (chunk_of j.members.now j.size chunk)) [] added done
         × (out.items ≡ answered_true (λ a. a.target) done) };
 
-    fn run(&self, chunk: u32, token: &mut Both<F::Token, StampHand<'a>>) -> Result<Vec<u32>, AllocError> {
+    fn run(
+        &self,
+        chunk: u32,
+        token: &mut Both<F::Token, StampHand<'a>>,
+    ) -> Result<Vec<u32>, AllocError> {
         let members = chunk_at(self.members, self.size as usize, chunk as usize);
         let mut noted = Vec::new(self.alloc);
         push_members(self.visit.rows, &self.visit, members, token, &mut noted)?;
@@ -134,10 +138,23 @@ pub fn edge_push<R: Threads + Sync, F: EdgeFn, G: Gate>(
 {
     prove!(from.n() == rows.n());
     match from.as_slice() {
-        Some(members) => push_list(rt, alloc, team, rows, members, f, token, stamps, stamp_seat, round),
+        Some(members) => push_list(
+            rt, alloc, team, rows, members, f, token, stamps, stamp_seat, round,
+        ),
         None => {
             let members = from.ids()?;
-            push_list(rt, alloc, team, rows, members.as_slice(), f, token, stamps, stamp_seat, round)
+            push_list(
+                rt,
+                alloc,
+                team,
+                rows,
+                members.as_slice(),
+                f,
+                token,
+                stamps,
+                stamp_seat,
+                round,
+            )
         }
     }
 }
@@ -206,8 +223,9 @@ fn push_chunks<'a, R: Threads + Sync, F: EdgeFn, G: Gate>(
     requires may { MayPush (F.can_want visit.f.now) (F.can_apply visit.f.now) visit.rows.now members.now
         (F.wanted visit.f.now) F.Token.parts visit.round (F.Token.home token ++ hand.seat.home ∷ []) }
 
-    ensures pushed { IfOk result (λ r. PushedAll (F.gives visit.entry.f.now) visit.entry.rows.now visit.entry.round members.now
-        (F.wanted visit.entry.f.now) (F.Token.log token) (F.Token.log r.0) hand.entry.seat r.1.seat r.2.items) }
+    ensures pushed { IfOk result (λ r. PushedAll (F.gives visit.entry.f.now) visit.entry.rows.now
+        visit.entry.round members.now (F.wanted visit.entry.f.now)
+        (F.Token.log token) (F.Token.log r.0) hand.entry.seat r.1.seat r.2.items) }
     ensures root { IfOk result (λ r. (F.Token.is_root r.0 ≡ true) × (r.1.seat.root ≡ true)) }
     ensures none_out { IfOk result (λ r. (F.Token.out r.0 ≡ 0) × (r.1.seat.out ≡ 0)) }
     ensures home { IfOk result (λ r. F.Token.home r.0 ≡ F.Token.home token) }

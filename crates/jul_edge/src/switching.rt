@@ -58,11 +58,15 @@ pub fn edge_map<R: Threads + Sync, F: EdgeFn, G: Gate>(
 {
     prove!(from.n() == rows.n());
     match from.as_slice() {
-        Some(members) => map_list(rt, alloc, team, rows, in_rows, from, members, f, token, stamps, stamp_seat, round),
+        Some(members) => map_list(
+            rt, alloc, team, rows, in_rows, from, members, f, token, stamps, stamp_seat, round,
+        ),
         None => {
             let members = from.ids()?;
             let members = members.as_slice();
-            map_list(rt, alloc, team, rows, in_rows, from, members, f, token, stamps, stamp_seat, round)
+            map_list(
+                rt, alloc, team, rows, in_rows, from, members, f, token, stamps, stamp_seat, round,
+            )
         }
     }
 }
@@ -103,7 +107,9 @@ fn map_list<R: Threads + Sync, F: EdgeFn, G: Gate>(
     ensures home { IfOk result (λ r. F.Token.home r.token ≡ F.Token.home token) }
 {
     if !reaches_far(rows, members) {
-        return push_list(rt, alloc, team, rows, members, f, token, stamps, stamp_seat, round);
+        return push_list(
+            rt, alloc, team, rows, members, f, token, stamps, stamp_seat, round,
+        );
     }
     let out = edge_pull(rt, alloc, team, rows, in_rows, from, f, token)?;
     Ok(EdgeOut {

@@ -1,5 +1,4 @@
-use Rattle.std.proofs.Common.{◌≡◌, ◌<◌, ◌∙◌, length, get_or, ap, sym, refl, arith, List, ℕ, []}
-use Rattle.std.specs.Prelude.{slice_index}
+use Rattle.std.proofs.Common.{get_or, ap, List, ℕ, []}
 use Rattle.std.specs.List.{slice_index_or}
 use Rattle.jul_edge.proofs.VisitLaws.{same_then, pull_more, pushed_append}
 use Rattle.jul_edge.proofs.pulling.pull_row.Goals as goal

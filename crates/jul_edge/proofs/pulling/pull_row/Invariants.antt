@@ -1,4 +1,4 @@
-use Rattle.std.proofs.Common.{List, map, []}
+use Rattle.std.proofs.Common.{map, []}
 use Rattle.std.specs.Prelude.{slice_index}
 use Rattle.std.specs.List.{filter, range_with_len, slice_index_or}
 use Rattle.jul_base.specs.Sets.{has}

@@ -1,6 +1,5 @@
-use Rattle.std.proofs.Common.{◌≡◌, ◌-◌, ap, subst, sym, refl, arith, ℕ}
-use Rattle.std.specs.List.{range_with_len}
-use Rattle.jul_edge.specs.Visits.{wanted_steps, HasPushed}
+use Rattle.std.proofs.Common.{arith}
+use Rattle.jul_edge.specs.Visits.{wanted_steps}
 use Rattle.jul_edge.proofs.VisitLaws.{range_more, same_then, pushed_append}
 use Rattle.jul_edge.proofs.pulling.pull_targets.Goals as goal
 

@@ -1,7 +1,6 @@
-use Rattle.std.proofs.Common.{◌≡◌, ◌≤◌, ◌<◌, ◌*◌, ◌∙◌, ap, sym, subst, refl, ℕ, true}
+use Rattle.std.proofs.Common.{◌≡◌, ◌≤◌, ◌<◌, ◌*◌, ◌∙◌, sym, subst, refl, true}
 use Rattle.std.specs.Prelude.{All}
 use Rattle.std.proofs.lemmas.Grind.{div_ceil_times}
-use Rattle.jul_base.specs.Graph.{vertices}
 use Rattle.jul_subset.specs.Subsets.{Subset}
 use Rattle.jul_edge.specs.declared.functions.Direction.TheVariants.{Pull}
 use Rattle.jul_edge.specs.EdgeMaps.{IsMapped}

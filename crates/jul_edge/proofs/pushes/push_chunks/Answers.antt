@@ -1,4 +1,4 @@
-use Rattle.std.proofs.Common.{◌≡◌, ◌∙◌, ◌≤◌, ◌*◌, ap, sym, subst, List, ℕ, length}
+use Rattle.std.proofs.Common.{◌≤◌, ◌*◌, length}
 use Rattle.std.proofs.lemmas.Grind.{div_ceil_times}
 use Rattle.jul_edge.proofs.PushedLaws.{pushed_all}
 use Rattle.jul_edge.proofs.pushes.push_chunks.Goals as goal

@@ -1,4 +1,4 @@
-use Rattle.std.proofs.Common.{◌≡◌, ◌≤◌, ◌<◌, ◌∙◌, sym, subst, refl, arith, length, ℕ, List}
+use Rattle.std.proofs.Common.{◌≤◌, ◌<◌, ◌∙◌, sym, subst, refl, arith, length}
 use Rattle.std.specs.Prelude.{All}
 use Rattle.jul_words.specs.Seats.{Seat}
 use Rattle.jul_words.specs.Stamps.{AllFirsts}

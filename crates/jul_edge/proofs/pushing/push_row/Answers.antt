@@ -1,5 +1,4 @@
-use Rattle.std.proofs.Common.{◌≡◌, ◌+◌, ◌<◌, length, get_or, ap, sym, ◌∙◌, arith}
-use Rattle.jul_base.specs.Graph.{row_start, target}
+use Rattle.std.proofs.Common.{◌<◌, length, get_or, arith}
 use Rattle.jul_edge.proofs.VisitLaws.{same_then, push_more, push_whole, pushed_append, pushed_same}
 use Rattle.jul_base.proofs.GraphLaws.{row_end-le}
 use Rattle.jul_edge.proofs.pushing.push_row.Goals as goal

@@ -1,4 +1,4 @@
-use Rattle.std.proofs.Common.{◌≡◌, ◌+◌, List, map}
+use Rattle.std.proofs.Common.{◌≡◌, ◌+◌, map}
 use Rattle.std.specs.List.{filter, range_with_len}
 use Rattle.jul_base.specs.Graph.{target, row_start}
 use Rattle.jul_edge.specs.Visits.{IsSame, Step, step, HasPushed}

@@ -1,4 +1,4 @@
-use Rattle.std.proofs.Common.{◌≡◌, ◌+◌, ◌<◌, ◌*◌, ◌∙◌, ap, refl, arith}
+use Rattle.std.proofs.Common.{◌≡◌, ◌+◌, ◌*◌, ◌∙◌, ap, refl}
 use Rattle.std.specs.Prelude.{min}
 use Rattle.jul_base.specs.Graph.{vertices}
 use Rattle.jul_base.specs.Numbers.{below}

@@ -1,4 +1,4 @@
-use Rattle.std.proofs.Common.{◌≡◌, ◌<◌, ◌∙◌, ap, sym, subst, List, ℕ, length, All, get_or}
+use Rattle.std.proofs.Common.{◌<◌, ap, sym, subst, All}
 use Rattle.std.specs.Prelude.{Contains}
 use Rattle.jul_base.specs.Graph.{vertices}
 use Rattle.jul_subset.specs.Chunks.{chunk_of}
@@ -15,7 +15,7 @@ push_members-requires-clause-can g c =
     let all = chunk_members (λ u. u < vertices j.visit.rows.now) j.members.now j.size c.args.chunk may.members_in in
     let here : All (λ u. (u < vertices j.visit.rows.now) × Contains j.members.now u) c.chunk_at-members.result.now = subst (All (λ u. (u < vertices j.visit.rows.now) × Contains j.members.now u)) (sym c.chunk_at-members.ensures) all in
     λ k d lt s at.
-        may_visit (g.F.EdgeFn.can_want j.visit.f.now) (g.F.EdgeFn.can_apply j.visit.f.now) j.visit.rows.now j.members.now (g.F.EdgeFn.wanted j.visit.f.now) g.F.Token.Share.parts j.visit.round (g.F.Token.Share.home c.args.token.now.a) c.args.token.now.b.seat.home may (g.met.F.Token.Share.home_has_parts _) _ (here k d lt).1 s at
+    may_visit (g.F.EdgeFn.can_want j.visit.f.now) (g.F.EdgeFn.can_apply j.visit.f.now) j.visit.rows.now j.members.now (g.F.EdgeFn.wanted j.visit.f.now) g.F.Token.Share.parts j.visit.round (g.F.Token.Share.home c.args.token.now.a) c.args.token.now.b.seat.home may (g.met.F.Token.Share.home_has_parts _) _ (here k d lt).1 s at
 
 pub returns-clause-gives : goal.returns-clause-gives
 returns-clause-gives g c =
