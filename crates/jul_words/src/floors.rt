@@ -7,6 +7,7 @@ pub trait Floors {
 }
 
 /// `count` zeros.
+#[derive(Clone, Copy)]
 pub struct ZeroFloors {
     pub count: u32,
 }
