@@ -19,3 +19,5 @@ pub use pulls::edge_pull;
 pub use pushes::edge_push;
 pub use switching::edge_map;
 
+#[cfg(test)]
+mod tests;

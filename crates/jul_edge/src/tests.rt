@@ -1,0 +1,422 @@
+//! Worked answers of the edge maps, with several numbers of threads.
+ghost use Rattle.std.specs.Prelude.{◌≡◌, ℕ, ◌+◌, ◌<◌, ◌≤◌, [], ◌∷◌, All, IsTrue, IfOk, true, length, slice_index, if◌then◌else◌};
+ghost use Rattle.jul_base.specs.Graph.{vertices, places, IsLawful};
+ghost use Rattle.jul_base.specs.declared.limits.TheConstants.{MAX_N, MAX_M};
+ghost use Rattle.jul_base.specs.Logs.{Home, LOWER};
+ghost use Rattle.jul_words.specs.Weights.{counted};
+ghost use Rattle.jul_words.specs.Seats.{entry, IsAlone};
+ghost use Rattle.jul_edge.specs.EdgeMaps.{CanStamp};
+
+use super::*;
+use jul_base::{Free, Ids, MAX_M, MAX_N, MAX_W, OpenGate, RawGraph};
+use jul_pool::Team;
+use jul_rows::Rows;
+use jul_subset::VertexSubset;
+use jul_words::{MinHand, MinWords, StampSeat, StampWords, ZeroFloors};
+use std::alloc::{AllocError, Global};
+use std::process::Abort;
+use std::test::Fail;
+use std::thread::Threads;
+
+/// Whether no number is greater than the next.
+fn rises(xs: &[u32]) -> bool
+    ensures { IsTrue result → (v : ℕ) → v + 1 < length xs.now →
+        slice_index xs.now v ≤ slice_index xs.now (v + 1) }
+{
+    for i in 1..xs.len() {
+        if xs[i] < xs[i - 1] {
+            return false;
+        }
+    }
+    true
+}
+
+fn all_below(xs: &[u32], bound: usize) -> bool
+    ensures { IsTrue result → All (λ x. x < bound) xs.now }
+{
+    for x in xs {
+        if *x as usize >= bound {
+            return false;
+        }
+    }
+    true
+}
+
+fn begins_with_zero(xs: &[u32]) -> bool
+    ensures { IsTrue result → slice_index xs.now 0 ≡ 0 }
+{
+    match xs.first() {
+        Some(x) => *x == 0,
+        None => true,
+    }
+}
+
+/// Whether there are so many vertices, places and weights.
+fn sizes_fit(graph: &RawGraph) -> bool
+    ensures vertices { IsTrue result → vertices graph.now ≤ MAX_N }
+    ensures places { IsTrue result → places graph.now ≤ MAX_M }
+    ensures empty { IsTrue result → vertices graph.now ≡ 0 → places graph.now ≡ 0 }
+    ensures weights { IsTrue result →
+        length graph.now.weights ≡ (if graph.now.weighted then places graph.now else 0) }
+{
+    let n = graph.offsets.len();
+    let m = graph.targets.len();
+    if n > MAX_N as usize || m > MAX_M as usize || n == 0 && m != 0 {
+        return false;
+    }
+    if graph.weighted {
+        graph.weights.len() == m
+    } else {
+        graph.weights.len() == 0
+    }
+}
+
+/// Whether the lists are those of a lawful graph.
+fn is_lawful(graph: &RawGraph) -> bool
+    ensures { IsTrue result → IsLawful graph.now }
+{
+    if !sizes_fit(graph) {
+        return false;
+    }
+    let offsets = graph.offsets.as_slice();
+    let targets = graph.targets.as_slice();
+    if !begins_with_zero(offsets) || !rises(offsets) || !all_below(offsets, targets.len() + 1) {
+        return false;
+    }
+    if !all_below(graph.weights.as_slice(), MAX_W as usize + 1) {
+        return false;
+    }
+    all_below(targets, offsets.len())
+}
+
+/// The rows of a graph, which has no weights of its own where the last list is empty. Lists that aren't
+/// lawful end the test.
+fn rows_of(rt: &impl Abort, alloc: Global, lists: [&[u32]; 3]) -> Result<Rows, Fail> {
+    let [offsets, targets, weights] = lists;
+    let graph = RawGraph {
+        weighted: !weights.is_empty(),
+        offsets: Ids::from_vec(Vec::from_slice(alloc, offsets)?),
+        targets: Ids::from_vec(Vec::from_slice(alloc, targets)?),
+        weights: Ids::from_vec(Vec::from_slice(alloc, weights)?),
+    };
+    assert!(rt; is_lawful(&graph));
+    Ok(Rows::of(graph))
+}
+
+/// Wants all, and answers true.
+#[derive(Drop)]
+struct Always;
+
+impl EdgeFn for Always {
+    type Token = Free;
+
+    ghost can_want = { λ _ _. Unit {0} };
+
+    ghost wanted = { λ _ _. true };
+
+    ghost can_apply = { λ _ _ _. Unit {0} };
+
+    ghost gives = { λ _ _ answer added. (answer ≡ true) × (added ≡ []) };
+
+    fn wants(&self, _v: u32) -> bool {
+        true
+    }
+
+    fn apply(
+        &self,
+        _token: &mut Free,
+        _by: Direction,
+        _u: u32,
+        _place: u32,
+        _v: u32,
+        _w: u32,
+    ) -> bool {
+        true
+    }
+}
+
+/// A chain of 100 vertices, of which each but the last leads to the next.
+fn chain(rt: &impl Abort, alloc: Global) -> Result<Rows, Fail> {
+    let mut offsets = Vec::new(alloc);
+    let mut targets = Vec::new(alloc);
+    for v in 0..99u32 {
+        offsets.push(v)?;
+        targets.push(v + 1)?;
+    }
+    offsets.push(99)?;
+    rows_of(
+        rt,
+        alloc,
+        [offsets.as_slice(), targets.as_slice(), [].as_slice()],
+    )
+}
+
+/// A table of stamps for the vertices, for round 1.
+fn stamps_for(alloc: Global, rows: &Rows) -> Result<(StampWords, StampSeat), AllocError>
+    ensures { IfOk result (λ r. CanStamp (vertices rows.now) r.0 1 r.1) }
+{
+    StampWords::open(alloc, rows.n())
+}
+
+/// The members of a subset by push, each once.
+fn pushed<R: Threads + Sync + Abort>(
+    rt: &R,
+    alloc: Global,
+    team: &Team<'_, OpenGate>,
+    rows: &Rows,
+    from: &VertexSubset,
+) -> Result<Vec<u32>, Fail>
+    requires { from.now.n ≡ vertices rows.now }
+{
+    let (stamps, seat) = stamps_for(alloc, rows)?;
+    let out = edge_push(
+        rt,
+        alloc,
+        team,
+        rows,
+        from,
+        &Always,
+        Free::root(),
+        &stamps,
+        seat,
+        1,
+    )?;
+    assert!(rt; out.direction == Direction::Push);
+    assert!(rt; !out.subset.is_dense());
+    Ok(out.subset.ids()?)
+}
+
+/// The members of a subset by pull, each once.
+fn pulled<R: Threads + Sync + Abort>(
+    rt: &R,
+    alloc: Global,
+    team: &Team<'_, OpenGate>,
+    rows: &Rows,
+    from: &VertexSubset,
+) -> Result<Vec<u32>, Fail>
+    requires { from.now.n ≡ vertices rows.now }
+{
+    let in_rows = rows.flip()?;
+    let out = edge_pull(rt, alloc, team, rows, &in_rows, from, &Always, Free::root())?;
+    assert!(rt; out.subset.is_dense());
+    Ok(out.subset.ids()?)
+}
+
+/// The members of a subset by `edge_map`, and whether it pulled.
+fn mapped<R: Threads + Sync + Abort>(
+    rt: &R,
+    alloc: Global,
+    team: &Team<'_, OpenGate>,
+    rows: &Rows,
+    from: &VertexSubset,
+) -> Result<(Vec<u32>, bool), Fail>
+    requires { from.now.n ≡ vertices rows.now }
+{
+    let in_rows = rows.flip()?;
+    let (stamps, seat) = stamps_for(alloc, rows)?;
+    let out = edge_map(
+        rt,
+        alloc,
+        team,
+        rows,
+        &in_rows,
+        from,
+        &Always,
+        Free::root(),
+        &stamps,
+        seat,
+        1,
+    )?;
+    Ok((out.subset.ids()?, out.direction == Direction::Pull))
+}
+
+/// What `edge_map` gives from these vertices, and whether it pulled. The other two calls give the same subset.
+fn reached<R: Threads + Sync + Abort>(
+    rt: &R,
+    alloc: Global,
+    workers: u32,
+    rows: &Rows,
+    ids: &[u32],
+) -> Result<(Vec<u32>, bool), Fail>
+    requires { (1 ≤ workers) × (workers ≤ 64) }
+{
+    let team = Team {
+        workers,
+        chunk: 1,
+        gate: &OpenGate,
+    };
+    let from = VertexSubset::from_list(alloc, rows.n(), ids)?;
+    let (members, pulls) = mapped(rt, alloc, &team, rows, &from)?;
+    assert_eq!(rt;
+        pushed(rt, alloc, &team, rows, &from)?.as_slice(),
+        members.as_slice()
+    );
+    assert_eq!(rt;
+        pulled(rt, alloc, &team, rows, &from)?.as_slice(),
+        members.as_slice()
+    );
+    Ok((members, pulls))
+}
+
+#[test]
+fn a_chain_is_pushed_from_two_and_pulled_from_three(rt: HostRuntime) -> Result<(), Fail> {
+    let rows = chain(&rt, rt.alloc())?;
+    for workers in [1u32, 2, 7] {
+        let (members, pulled) = reached(&rt, rt.alloc(), workers, &rows, &[0, 1])?;
+        assert_eq!(rt; members.as_slice(), [1, 2].as_slice(), "{workers} workers");
+        assert!(rt; !pulled, "4 doesn't exceed 4");
+        let (members, pulled) = reached(&rt, rt.alloc(), workers, &rows, &[0, 1, 2])?;
+        assert_eq!(rt;
+            members.as_slice(),
+            [1, 2, 3].as_slice(),
+            "{workers} workers"
+        );
+        assert!(rt; pulled, "6 exceeds 4");
+    }
+    Ok(())
+}
+
+#[test]
+fn no_vertex_pushes_and_gives_none(rt: HostRuntime) -> Result<(), Fail> {
+    let rows = four(&rt, rt.alloc())?;
+    for workers in [1u32, 2, 7] {
+        let (members, pulled) = reached(&rt, rt.alloc(), workers, &rows, &[])?;
+        assert_eq!(rt; members.len(), 0, "{workers} workers");
+        assert!(rt; !pulled, "0 doesn't exceed 0");
+    }
+    Ok(())
+}
+
+/// Four vertices and four places, of which two lead to vertex 1.
+fn four(rt: &impl Abort, alloc: Global) -> Result<Rows, Fail> {
+    let offsets = [0, 2, 3, 4].as_slice();
+    let targets = [1, 2, 3, 1].as_slice();
+    let weights = [9, 1, 5, 6].as_slice();
+    rows_of(rt, alloc, [offsets, targets, weights])
+}
+
+/// Wants all, lowers the word of the target to the weight, and answers whether it was greater.
+#[derive(Drop)]
+struct LowerToWeight<'a> {
+    words: &'a MinWords,
+}
+
+impl<'a> EdgeFn for LowerToWeight<'a> {
+    type Token = MinHand<'a>;
+
+    ghost can_want = { λ _ _. Unit {0} };
+
+    ghost wanted = { λ _ _. true };
+
+    ghost can_apply = { λ _ a home. (h : Home) × (home ≡ h ∷ []) × (a.target < length h.starts)
+        × (slice_index h.floors a.target ≤ a.weight) };
+
+    ghost gives = { λ _ a answer added. added ≡ (entry LOWER a.target a.weight (counted answer) ∷ []) ∷ [] };
+
+    fn wants(&self, _v: u32) -> bool {
+        true
+    }
+
+    fn apply(
+        &self,
+        hand: &mut MinHand<'a>,
+        _by: Direction,
+        _u: u32,
+        _place: u32,
+        v: u32,
+        w: u32,
+    ) -> bool {
+        u64::from(w) < hand.words.lower(&mut hand.seat, v, u64::from(w))
+    }
+}
+
+/// What a lowering from vertices 0 and 2 gives: the subset, and the words of vertices 1 and 2.
+fn lowered<R: Threads + Sync + Abort>(
+    rt: &R,
+    alloc: Global,
+    workers: u32,
+    rows: &Rows,
+    pull: bool,
+) -> Result<(Vec<u32>, u64, u64), Fail>
+    requires { (1 ≤ workers) × (workers ≤ 64) }
+{
+    assert_eq!(rt; rows.n(), 4);
+    let team = Team {
+        workers,
+        chunk: 1,
+        gate: &OpenGate,
+    };
+    let from = VertexSubset::from_list(alloc, rows.n(), &[0, 2])?;
+    let (words, seat) = MinWords::open(alloc, &[100, 100, 100, 100], &ZeroFloors { count: 4 })?;
+    let hand = MinHand {
+        words: &words,
+        seat,
+    };
+    let f = LowerToWeight { words: &words };
+    let (members, mut hand) = if pull {
+        pull_down(rt, alloc, &team, rows, &from, &f, hand)?
+    } else {
+        push_down(rt, alloc, &team, rows, &from, &f, hand)?
+    };
+    let first = hand.words.load(&mut hand.seat, 1);
+    let second = hand.words.load(&mut hand.seat, 2);
+    Ok((members, first, second))
+}
+
+/// Lowers by push.
+fn push_down<'a, R: Threads + Sync>(
+    rt: &R,
+    alloc: Global,
+    team: &Team<'_, OpenGate>,
+    rows: &Rows,
+    from: &VertexSubset,
+    f: &LowerToWeight<'a>,
+    hand: MinHand<'a>,
+) -> Result<(Vec<u32>, MinHand<'a>), AllocError>
+    requires lawful { IsLawful rows.now }
+    requires n { from.now.n ≡ vertices rows.now }
+    requires alone { IsAlone hand.seat }
+    requires words { length hand.seat.home.starts ≡ vertices rows.now }
+    requires floors { (v : ℕ) → slice_index hand.seat.home.floors v ≡ 0 }
+    ensures { IfOk result (λ r. r.1.seat.home ≡ hand.entry.seat.home) }
+{
+    let (stamps, seat) = stamps_for(alloc, rows)?;
+    let out = edge_push(rt, alloc, team, rows, from, f, hand, &stamps, seat, 1)?;
+    Ok((out.subset.ids()?, out.token))
+}
+
+/// Lowers by pull.
+fn pull_down<'a, R: Threads + Sync>(
+    rt: &R,
+    alloc: Global,
+    team: &Team<'_, OpenGate>,
+    rows: &Rows,
+    from: &VertexSubset,
+    f: &LowerToWeight<'a>,
+    hand: MinHand<'a>,
+) -> Result<(Vec<u32>, MinHand<'a>), AllocError>
+    requires lawful { IsLawful rows.now }
+    requires n { from.now.n ≡ vertices rows.now }
+    requires alone { IsAlone hand.seat }
+    requires words { length hand.seat.home.starts ≡ vertices rows.now }
+    requires floors { (v : ℕ) → slice_index hand.seat.home.floors v ≡ 0 }
+    ensures { IfOk result (λ r. r.1.seat.home ≡ hand.entry.seat.home) }
+{
+    let in_rows = rows.flip()?;
+    let out = edge_pull(rt, alloc, team, rows, &in_rows, from, f, hand)?;
+    Ok((out.subset.ids()?, out.token))
+}
+
+#[test]
+fn the_least_weight_stays_and_each_lowered_target_stands_once(rt: HostRuntime) -> Result<(), Fail> {
+    let rows = four(&rt, rt.alloc())?;
+    for workers in [1u32, 2, 7] {
+        for pull in [false, true] {
+            let (members, first, second) = lowered(&rt, rt.alloc(), workers, &rows, pull)?;
+            assert_eq!(rt; members.as_slice(), [1, 2].as_slice(), "{workers} workers");
+            assert_eq!(rt; first, 6, "{workers} workers");
+            assert_eq!(rt; second, 1, "{workers} workers");
+        }
+    }
+    Ok(())
+}
