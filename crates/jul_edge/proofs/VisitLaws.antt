@@ -14,14 +14,11 @@ use Rattle.jul_base.specs.Graph.{row_start, row_end, target}
 use Rattle.jul_base.specs.Logs.{Home}
 use Rattle.jul_base.specs.Sets.{has}
 use Rattle.jul_edge.specs.Visits.{IsSame, push_steps, Step, step, Visited, noted_of, VisitedInOrder, HasVisited, HasPushed}
-
-noted_of-if : (b : Bool) (v : ℕ) (xs ys zs : List ℕ) → zs ≡ xs ++ ys → (if b then v ∷ zs else zs) ≡ (if b then v ∷ xs else xs) ++ ys
-noted_of-if true v xs ys zs e = ap (λ l. v ∷ l) e
-noted_of-if false v xs ys zs e = e
+use Rattle.jul_subset.proofs.ApplicationLaws.{if_append}
 
 pub noted_of-append : (xs ys : List Visited) → noted_of (xs ++ ys) ≡ noted_of xs ++ noted_of ys
 noted_of-append [] ys = refl
-noted_of-append (x ∷ xs) ys = noted_of-if x.noted x.step.target (noted_of xs) (noted_of ys) (noted_of (xs ++ ys)) (noted_of-append xs ys)
+noted_of-append (x ∷ xs) ys = if_append x.noted x.step.target (noted_of xs) (noted_of ys) (noted_of (xs ++ ys)) (noted_of-append xs ys)
 
 module _ {T : Type 0} (home : T → List Home) (is_root : T → Bool) (out : T → ℕ) where
   pub same_then : (old mid new : T) → IsSame home is_root out old mid → IsSame home is_root out mid new → IsSame home is_root out old new

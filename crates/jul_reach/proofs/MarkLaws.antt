@@ -1,6 +1,6 @@
 -- Vertices that are marked one after another.
-use Rattle.std.proofs.Common.{◌≡◌, ◌≢◌, ◌↔◌, ◌⊎◌, ℕ, ◌+◌, ◌<◌, ◌≤◌, Bool, true, false, not, List, [], ◌∷◌, ◌++◌, length, get_or, set, take, sym, ◌∙◌, ap, subst, refl, cond, arith, inl, inr}
-use Rattle.std.specs.List.{Contains, All, count_by}
+use Rattle.std.proofs.Common.{◌≡◌, ◌↔◌, ◌⊎◌, ℕ, ◌+◌, ◌<◌, Bool, true, false, not, List, [], ◌∷◌, ◌++◌, length, get_or, set, take, sym, ◌∙◌, ap, subst, cond, arith, inl, inr}
+use Rattle.std.specs.List.{Contains, count_by}
 use Rattle.std.specs.List.Sorted.{IsStrictlyIncreasing}
 use Rattle.std.proofs.lemmas.Bool.{cases_eq, cases_Bool, both_ways}
 use Rattle.std.proofs.lemmas.List.{take_more, get_or-set_same, get_or-set_other, get_or_default, get_or-take, length-take}
@@ -63,7 +63,7 @@ module _ (old marks : List Bool) (ids : List ℕ) (i v : ℕ) (up : IsStrictlyIn
   marked_more = record {
     marked = λ x. (now_marked x, was_asked x);
     fewer =
-      let count : count_by not (set marks v true) + cond (not (get_or marks v false)) 1 0 ≡ count_by not marks + 0 = sum_by-set (λ b. cond (not b) 1 0) marks v true false within in
-      let one : cond {A = ℕ} (not (get_or marks v false)) 1 0 ≡ 1 = ap (λ b. cond {A = ℕ} (not b) 1 0) unmarked in
-      omega (arith, count, one, done.fewer, length-take i ids, length-take (i + 1) ids);
+        let count : count_by not (set marks v true) + cond (not (get_or marks v false)) 1 0 ≡ count_by not marks + 0 = sum_by-set (λ b. cond (not b) 1 0) marks v true false within in
+        let one : cond {A = ℕ} (not (get_or marks v false)) 1 0 ≡ 1 = ap (λ b. cond {A = ℕ} (not b) 1 0) unmarked in
+        omega (arith, count, one, done.fewer, length-take i ids, length-take (i + 1) ids);
   }

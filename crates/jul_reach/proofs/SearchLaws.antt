@@ -1,9 +1,8 @@
 -- A round of a search, and where it ends.
-use Rattle.std.proofs.Common.{◌≡◌, ◌≢◌, ◌↔◌, ◌⊎◌, ℕ, ◌+◌, ◌<◌, ◌≤◌, Bool, true, false, not, List, [], ◌∷◌, ◌++◌, length, get_or, set, replicate, take, drop, map, cond, sym, ◌∙◌, ap, subst, refl, arith, inl, inr}
+use Rattle.std.proofs.Common.{◌≡◌, ◌↔◌, ℕ, ◌+◌, ◌<◌, ◌≤◌, Bool, true, false, not, List, [], ◌∷◌, ◌++◌, length, get_or, set, replicate, take, drop, map, cond, sym, ◌∙◌, ap, subst, refl, arith, inl, inr}
 use Rattle.std.specs.List.{Contains, All, count_by}
-use Rattle.std.specs.List.Sorted.{IsStrictlyIncreasing}
 use Rattle.std.proofs.lemmas.Bool.{cases_eq, cases_lt, cases_Bool, both_ways, not-true, not_from_false}
-use Rattle.std.proofs.lemmas.List.{get_or-set_same, get_or-set_other, get_or-replicate, length-set, length-replicate, length-map, get_or-map, get_or_past}
+use Rattle.std.proofs.lemmas.List.{get_or-set_same, get_or-set_other, get_or-replicate, length-set, length-replicate, get_or_past}
 use Rattle.std.proofs.lemmas.List.Elements.{All-contains, All-weaker, All-append, All-nil, All-cons, All-head, All-tail, All-from_get_or, Contains-get_or}
 use Rattle.std.proofs.lemmas.List.Sums.{sum_by-set, count_by-le-length}
 use Rattle.std.proofs.Math.Seq.{take-append_seam}
@@ -15,7 +14,6 @@ use Rattle.jul_pool.specs.Times.{times}
 use Rattle.jul_base.proofs.WalkLaws.{IsWalk-push}
 use Rattle.jul_words.specs.Seats.{Seat}
 use Rattle.jul_subset.specs.Subsets.{Subset}
-use Rattle.jul_subset.specs.Applications.{Done}
 use Rattle.jul_edge.specs.declared.functions.Direction.{Direction}
 use Rattle.jul_edge.specs.Edges.{Application, application, IsWanted, places_of}
 use Rattle.jul_edge.specs.EdgeMaps.{IsMapped, CanStamp, HasStamped}
@@ -172,7 +170,7 @@ pub hit_unmarked : (g : RawGraph) (source : ℕ) (table : List ℕ) (marks seen 
 hit_unmarked g source table marks seen before frontier subset ids seat round by gives old new always seen_is before_is ids_are h mapped =
     let mapped' : IsMapped by g frontier.members (λ v. not (mark_at marks v)) gives old new subset = subst (λ m. IsMapped by g frontier.members (λ v. not (mark_at m v)) gives old new subset) seen_is mapped in
     let free : All (λ v. mark_at marks v ≡ false) subset.members = All-from_get_or (λ v. mark_at marks v ≡ false) subset.members 0
-        (λ k lt. unmarked g source by marks marks frontier.members subset gives old new always h.reaching mapped' (get_or subset.members k 0) (Contains-get_or subset.members k 0 lt)) in
+    (λ k lt. unmarked g source by marks marks frontier.members subset gives old new always h.reaching mapped' (get_or subset.members k 0) (Contains-get_or subset.members k 0 lt)) in
     subst (All (λ v. mark_at before v ≡ false)) (sym ids_are) (subst (λ m. All (λ v. mark_at m v ≡ false) subset.members) (sym before_is) free)
 
 -- a search begins with the source alone

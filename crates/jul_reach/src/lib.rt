@@ -5,7 +5,6 @@
 
 mod marks;
 mod reaching;
-
 #[cfg(test)]
 mod tests;
 

@@ -37,7 +37,15 @@ impl<'a> EdgeFn for Unreached<'a> {
         !self.reached[v as usize]
     }
 
-    fn apply(&self, _token: &mut Free, _by: Direction, _u: u32, _place: u32, _v: u32, _w: u32) -> bool {
+    fn apply(
+        &self,
+        _token: &mut Free,
+        _by: Direction,
+        _u: u32,
+        _place: u32,
+        _v: u32,
+        _w: u32,
+    ) -> bool {
         true
     }
 }
