@@ -7,6 +7,7 @@ pub mod MemoryLaws
 pub mod WalkLaws
 pub mod DistanceLaws
 pub mod TentativeLaws
+pub mod SourceLaws
 pub mod Rows
 pub mod LogLaws
 pub mod PartLaws

@@ -2,6 +2,7 @@ pub mod Numbers
 pub mod Graph
 pub mod Walks
 pub mod Distances
+pub mod Sources
 pub mod Tentative
 pub mod Sinks
 pub mod Shelves
