@@ -4,6 +4,7 @@ pub mod Walks
 pub mod Distances
 pub mod Sources
 pub mod Tentative
+pub mod DistanceList
 pub mod Sinks
 pub mod Shelves
 pub mod Loading
