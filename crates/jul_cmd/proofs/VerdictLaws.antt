@@ -1,5 +1,5 @@
 -- The verdict on a witness, by its kind and its size.
-use Rattle.std.proofs.Common.{◌≡◌, ◌≢◌, ℕ, ◌<◌, ◌≤◌, false, Result, Ok, Err, IfOk, sym, ◌∙◌, subst, ap, inl, inr}
+use Rattle.std.proofs.Common.{◌≡◌, ◌≢◌, ℕ, ◌<◌, ◌≤◌, [], ◌∷◌, false, Result, Ok, Err, IfOk, sym, ◌∙◌, subst, ap, inl, inr}
 use Rattle.std.specs.Prelude.{◌==◌}
 use Rattle.std.specs.Result.{IfErr, IsErrAnd}
 use Rattle.std.proofs.lemmas.Bool.{cases_Bool, cond-true, cond-false, le-ltb}
@@ -45,7 +45,7 @@ pub judged-cover : (g : RawGraph) (source : ℕ) (w : Witness) (c : Cover) → w
 unfolding judged
 judged-cover g source w c e = ap (judged g source) e
 
-pub judged-distances : (g : RawGraph) (source : ℕ) (w : Witness) (d : Distances) → w ≡ witnesses.Distances d → source < vertices g → judged g source w ≡ Ok (distances_verdict g source d)
+pub judged-distances : (g : RawGraph) (source : ℕ) (w : Witness) (d : Distances) → w ≡ witnesses.Distances d → source < vertices g → judged g source w ≡ Ok (distances_verdict g (source ∷ []) d)
 unfolding judged
 judged-distances g source w d e lt = ap (judged g source) e ∙ cond-true _ _ _ ((Decides-ltb source (vertices g)).1 lt)
 

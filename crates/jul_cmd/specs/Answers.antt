@@ -1,5 +1,5 @@
 -- What the program says of a query and of the files that it names.
-use Rattle.std.specs.Prelude.{◌≡◌, ◌⊎◌, ℕ, ◌<◌, ◌≤◌, ◌++◌, List, [], length, slice_index, Some, Result, Ok, Err, IfSome, codes, decimal, nat_lt, ◌==◌, if◌then◌else◌}
+use Rattle.std.specs.Prelude.{◌≡◌, ◌⊎◌, ℕ, ◌<◌, ◌≤◌, ◌++◌, List, [], ◌∷◌, length, slice_index, Some, Result, Ok, Err, IfSome, codes, decimal, nat_lt, ◌==◌, if◌then◌else◌}
 use Rattle.jul_base.specs.declared.graphs.RawGraph.{RawGraph}
 use Rattle.jul_base.specs.declared.limits.TheConstants.{MAX_BYTES}
 use Rattle.jul_base.specs.Graph.{vertices}
@@ -48,7 +48,7 @@ pub record IsDistanceText (g : RawGraph) (source : ℕ) (status : Status) (text 
   pub inside : source < vertices g
   pub done : status ≡ Done
   pub column : List ℕ
-  pub distances : AreDistances g source column
+  pub distances : AreDistances g (source ∷ []) column
   pub written : text ≡ bare_text column
 
 -- ---- the check of a witness
@@ -63,7 +63,7 @@ size_of (Cover c) = length c.round
 unfoldable pub judged : RawGraph → ℕ → Witness → Result Verdict Status
 judged g source (Cores c) = Ok (cores_verdict g c)
 judged g source (Distances d) =
-    if nat_lt source (vertices g) then Ok (distances_verdict g source d) else Err (SourceRange source (vertices g))
+    if nat_lt source (vertices g) then Ok (distances_verdict g (source ∷ []) d) else Err (SourceRange source (vertices g))
 judged g source (Cover c) = Ok (cover_verdict g c)
 
 -- the verdict on what a witness file says, or why there is none: its fault, another size, the source
@@ -88,7 +88,7 @@ IsTold (Err refusal) status text = (status ≡ refusal) × (text ≡ [])
 -- what a yes implies of the graph, whoever wrote the witness
 abbrev pub IsBorneOut : RawGraph → ℕ → Result Witness WitnessFault → Type 0
 IsBorneOut g source (Ok (Cores c)) = (v : ℕ) → v < vertices g → IsCoreness g v (slice_index c.core v)
-IsBorneOut g source (Ok (Distances d)) = AreDistances g source d.dist
+IsBorneOut g source (Ok (Distances d)) = AreDistances g (source ∷ []) d.dist
 IsBorneOut g source (Ok (Cover c)) = HoldsEveryElement g c.round
 IsBorneOut g source (Err fault) = ⊥
 

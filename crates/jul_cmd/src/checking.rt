@@ -49,7 +49,7 @@ fn judge_columns(
                 n: rows.n(),
             });
         }
-        Witness::Distances(d) => check_distances(alloc, rows, source, d),
+        Witness::Distances(d) => check_distances(alloc, rows, &[source], d),
         Witness::Cover(c) => check_cover(alloc, rows, c),
     };
     match verdict {
