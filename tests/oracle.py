@@ -23,26 +23,35 @@ def is_number(token):
     return re.fullmatch(rb"[0-9]+", token) is not None
 
 
+def value(token):
+    """The number that digits name, or another one far above each bound: Python reads no number of many thousand digits."""
+    return int(token.lstrip(b"0")[:40] or b"0")
+
+
 class Tokens:
     """The tokens of a text, taken one after another, and the faults of the one taken last."""
 
     def __init__(self, text):
-        self.tokens = [(m.group(), m.start()) for m in re.finditer(rb"[^ \t\r\n]+", text)]
+        self.matches = re.finditer(rb"[^ \t\r\n]+", text)
         self.length = len(text)
-        self.position = 0
+        self.taken = 0
+        self.last = None
 
     def take(self):
-        if self.position == len(self.tokens):
-            raise Fault("Truncated", self.position, self.length)
-        self.position += 1
-        return self.tokens[self.position - 1][0]
+        match = next(self.matches, None)
+        if match is None:
+            raise Fault("Truncated", self.taken, self.length)
+        self.taken += 1
+        self.last = match
+        return match.group()
 
     def fault(self, kind):
-        return Fault(kind, self.position - 1, self.tokens[self.position - 1][1])
+        return Fault(kind, self.taken - 1, self.last.start())
 
     def end(self):
-        if self.position < len(self.tokens):
-            self.position += 1
+        self.last = next(self.matches, None)
+        if self.last is not None:
+            self.taken += 1
             raise self.fault("Trailing")
 
 
@@ -55,7 +64,7 @@ def read_graph(text):
         token = tokens.take()
         if not is_number(token):
             raise fault("BadNumber")
-        return int(token)
+        return value(token)
 
     header = tokens.take()
     if header not in (b"AdjacencyGraph", b"WeightedAdjacencyGraph"):
@@ -90,9 +99,9 @@ def read_graph(text):
                 raise fault("NegativeWeight")
             if not is_number(token):
                 raise fault("BadNumber")
-            if int(token) > MAX_W:
+            weights[index] = value(token)
+            if weights[index] > MAX_W:
                 raise fault("WeightRange")
-            weights[index] = int(token)
     tokens.end()
     ends = offsets[1:] + [m]
     return [list(zip(targets[a:b], weights[a:b])) for a, b in zip(offsets, ends)]
@@ -123,9 +132,9 @@ def read_witness(text):
         raise tokens.fault("Header")
 
     def number(token, bound):
-        if not is_number(token) or int(token) > bound:
+        if not is_number(token) or value(token) > bound:
             raise tokens.fault("Number")
-        return int(token)
+        return value(token)
 
     def entry():
         token = tokens.take()
@@ -139,67 +148,88 @@ def read_witness(text):
     return word, rows
 
 
-def cores_reason(rows, witness, v):
-    core, level = witness[v]
-    row = [target for target, _ in rows[v]]
+def cores_reasons(rows, witness, _):
+    """The first reason that a vertex of a witness of cores fails, as a function of the vertex."""
 
-    def is_before(u, w):
-        return (witness[u][1], u) < (witness[w][1], w)
+    def order(v):
+        return witness[v][1], v
 
-    if sum(1 for x in row if witness[x][0] >= core) < core:
-        return b"LowerBound"
-    if sum(1 for x in row if not is_before(x, v)) > core:
-        return b"UpperBound"
-    if any(is_before(u, v) and witness[u][0] > core for u in range(len(rows))):
-        return b"Order"
-    return None
+    greatest, greatest_before = -1, {}
+    for v in sorted(range(len(rows)), key=order):
+        greatest_before[v] = greatest
+        greatest = max(greatest, witness[v][0])
+
+    def reason(v):
+        core = witness[v][0]
+        row = [target for target, _ in rows[v]]
+        if sum(1 for x in row if witness[x][0] >= core) < core:
+            return b"LowerBound"
+        if sum(1 for x in row if not order(x) < order(v)) > core:
+            return b"UpperBound"
+        if greatest_before[v] > core:
+            return b"Order"
+        return None
+
+    return reason
 
 
-def distances_reason(rows, witness, source, v):
-    dist, hops, parent = witness[v]
-    if v == source and (dist, hops, parent) != (0, 0, None):
-        return b"Source"
-    if dist is not None and any(witness[x][0] is None or witness[x][0] > dist + w for x, w in rows[v]):
-        return b"Lowerable"
-    if v != source and dist is not None:
-        held = hops is not None and parent is not None and parent < len(rows)
-        if held:
-            above, hops_above, _ = witness[parent]
-            held = above is not None and hops_above is not None and hops_above + 1 == hops
-            held = held and any(x == v and above + w == dist for x, w in rows[parent])
-        if not held:
+def distances_reasons(rows, witness, source):
+    """The first reason that a vertex of a witness of distances fails, as a function of the vertex."""
+
+    def is_held(v):
+        dist, hops, parent = witness[v]
+        if hops is None or parent is None or parent >= len(rows):
+            return False
+        above, hops_above, _ = witness[parent]
+        if above is None or hops_above is None or hops_above + 1 != hops:
+            return False
+        return any(x == v and above + w == dist for x, w in rows[parent])
+
+    def reason(v):
+        dist, hops, parent = witness[v]
+        if v == source and (dist, hops, parent) != (0, 0, None):
+            return b"Source"
+        if dist is not None and any(witness[x][0] is None or witness[x][0] > dist + w for x, w in rows[v]):
+            return b"Lowerable"
+        if v != source and dist is not None and not is_held(v):
             return b"Parent"
-    if v != source and dist is None and (hops is not None or parent is not None):
-        return b"Unreached"
-    return None
+        if v != source and dist is None and (hops is not None or parent is not None):
+            return b"Unreached"
+        return None
+
+    return reason
 
 
-def cover_reason(rows, witness, elements, v):
-    by = witness[v][1]
-    if v in elements:
-        if by is None or by >= len(rows):
-            return b"NotCovered"
-        if v not in {target for target, _ in rows[by]}:
-            return b"NotHeld"
-        if witness[by][0] is None:
-            return b"NotChosen"
-    elif by is not None:
-        return b"NoElement"
-    return None
+def cover_reasons(rows, witness, _):
+    """The first reason that a vertex of a witness of a cover fails, as a function of the vertex."""
+    elements = {target for row in rows for target, _ in row}
+
+    def reason(v):
+        by = witness[v][1]
+        if v in elements:
+            if by is None or by >= len(rows):
+                return b"NotCovered"
+            if v not in {target for target, _ in rows[by]}:
+                return b"NotHeld"
+            if witness[by][0] is None:
+                return b"NotChosen"
+        elif by is not None:
+            return b"NoElement"
+        return None
+
+    return reason
+
+
+REASONS = {b"Cores": cores_reasons, b"Distances": distances_reasons, b"Cover": cover_reasons}
 
 
 def verdict(rows, word, witness, source):
     """The exit code and the line of a check whose witness has the graph's size."""
-    elements = {target for row in rows for target, _ in row}
+    reason = REASONS[word](rows, witness, source)
     for v in range(len(rows)):
-        if word == b"Cores":
-            reason = cores_reason(rows, witness, v)
-        elif word == b"Distances":
-            reason = distances_reason(rows, witness, source, v)
-        else:
-            reason = cover_reason(rows, witness, elements, v)
-        if reason is not None:
-            return 1, b"no %d %s\n" % (v, reason)
+        failed = reason(v)
+        if failed is not None:
+            return 1, b"no %d %s\n" % (v, failed)
     return 0, b"yes\n"
 
 
@@ -227,11 +257,11 @@ def query(words):
         task, number, names = b"check", words[4], words[1:3]
     else:
         return None
-    if not is_number(number) or int(number) > 2**32 - 1 or not all(is_file_name(name) for name in names):
+    if not is_number(number) or value(number) > 2**32 - 1 or not all(is_file_name(name) for name in names):
         return None
     if names == [b"-", b"-"]:
         return None
-    return task, names, int(number)
+    return task, names, value(number)
 
 
 def source_range(source, rows):

@@ -1,0 +1,77 @@
+"""The README of examples/: each command in it, and its table of graphs."""
+import os
+import re
+import subprocess
+
+import oracle
+import program
+
+FOLDER = os.path.join(program.TOP, "examples")
+NO_DATA = {"README.md", "edge_list.py"}
+
+
+def read(name, folder=FOLDER):
+    with open(os.path.join(folder, name), "rb") as file:
+        return file.read()
+
+
+def commands(readme):
+    """The commands of the console blocks and the text that stands below each."""
+    for block in re.findall(r"^```console\n(.*?)^```$", readme, re.M | re.S):
+        for part in re.split(r"^\$ ", block, flags=re.M)[1:]:
+            yield part.split("\n", 1)
+
+
+def graphs_of_table(readme):
+    """Name, vertices, places and symmetry of each graph of the table."""
+    rows = re.findall(r"^\| `(\S+)` \|.*\| (\d+) \| (\d+) \| (yes|no) \|$", readme, re.M)
+    return [(name, int(n), int(m), symmetric == "yes") for name, n, m, symmetric in rows]
+
+
+def is_symmetric(rows):
+    places = sorted((u, v) for u, row in enumerate(rows) for v, _ in row)
+    return places == sorted((v, u) for u, v in places)
+
+
+def run_in_shell(command, folder):
+    """What a command prints, where folder stands in place of /tmp."""
+    done = subprocess.run(["sh", "-c", command.replace("/tmp/", folder + "/")], cwd=program.TOP, stdin=subprocess.DEVNULL,
+                          stdout=subprocess.PIPE, stderr=subprocess.STDOUT, timeout=program.LONGEST)
+    return done.stdout.decode().replace(folder + "/", "/tmp/")
+
+
+def test_table(tally, readme):
+    table = graphs_of_table(readme)
+    for name, *facts in table:
+        rows = oracle.read_graph(read(name))
+        tally.compare(f"the table's line of {name}", [len(rows), sum(map(len, rows)), is_symmetric(rows)], facts)
+    graphs = {name for name in os.listdir(FOLDER) if name.endswith("adj")}
+    tally.compare("the graphs of the table", {name for name, *_ in table}, graphs)
+
+
+def test_commands(tally, folder, readme):
+    run = list(commands(readme))
+    for command, wanted in run:
+        tally.compare(command, run_in_shell(command, folder), wanted)
+    unused = {name for name in os.listdir(FOLDER) if not any(f"examples/{name}" in command for command, _ in run)}
+    tally.compare("files that no command uses", unused - NO_DATA, set())
+
+
+def test_starter(tally, folder):
+    """bin/julienne from another folder, by way of a link, and with an answer that isn't 0."""
+    starter, link = os.path.join(program.TOP, "bin", "julienne"), os.path.join(folder, "link")
+    os.symlink(starter, link)
+    program.write(folder, "g", read("chain.adj"))
+    for name in (starter, link, os.path.relpath(starter, folder)):
+        for words, wanted in ((["0", "g"], (0, b"0\n1\n2\n3\n4\n5\n", b"")),
+                              (["6", "-"], (4, b"", b"source 6 is not below 6\n"))):
+            done = subprocess.run([name, "wbfs", "--bare", "--source", *words], input=read("chain.adj"), capture_output=True,
+                                  cwd=folder, timeout=program.LONGEST)
+            tally.compare(f"{name} {words}", (done.returncode, done.stdout, done.stderr), wanted)
+
+
+def test(tally, folder):
+    readme = read("README.md").decode()
+    test_table(tally, readme)
+    test_commands(tally, folder, readme)
+    test_starter(tally, folder)

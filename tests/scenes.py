@@ -1,0 +1,232 @@
+"""Random scenes: a graph text, a witness text and a source, aimed at one part of the program each.
+
+A graph is a list of rows of (target, weight); a witness is a word and lines of numbers, None for a dash.
+"""
+import oracle
+import texts
+import witnesses
+
+GREATEST = 2**64 - 2        # the greatest number of a witness
+CUT = 2**32                 # what a number loses that is kept in 32 bits
+
+
+def random_graph(rng, n, places, greatest):
+    rows = [[] for _ in range(n)]
+    for _ in range(places if n else 0):
+        rows[rng.randrange(0, n)].append((rng.randrange(0, n), rng.randrange(0, greatest + 1)))
+    return rows
+
+
+def random_pairs(rng, n, pairs):
+    """A symmetric graph: each pair stands in both rows."""
+    rows = [[] for _ in range(n)]
+    for _ in range(pairs):
+        u, v = rng.randrange(0, n), rng.randrange(0, n)
+        rows[u].append((v, 1))
+        rows[v].append((u, 1))
+    return rows
+
+
+def greatest_weight(rng):
+    return rng.choice([0, 1, 1, 9, 100, oracle.MAX_W])
+
+
+def tampered(rng, lines):
+    """The lines with one to three entries changed to what a wrong program might take for right."""
+    lines = [list(line) for line in lines]
+    for _ in range(rng.choice([1, 1, 1, 2, 3]) if lines else 0):
+        line, at = rng.choice(lines), rng.randrange(0, len(lines[0]))
+        old = line[at]
+        line[at] = rng.choice([None, 0, 1, 2, len(lines), rng.randrange(0, len(lines)), rng.choice(lines)[at], GREATEST]
+                              + ([] if old is None else [old + 1, max(old, 1) - 1, (old + CUT) % GREATEST]))
+    return lines
+
+
+def no_dashes(lines):
+    return [[3 if entry is None else entry for entry in line] for line in lines]
+
+
+def right_witness(rng, rows, source):
+    word = rng.choice(["Cores", "Distances", "Distances", "Cover"])
+    if word == "Cores":
+        return word, witnesses.cores_of(rows)
+    if word == "Distances":
+        return word, witnesses.tree_of(rows, source)
+    return word, witnesses.cover_of(rng, rows)
+
+
+def any_texts(rng):
+    """A graph and a witness, each of which may be damaged, tampered with or of another size."""
+    weighted = rng.random() < 0.6
+    n = rng.choice([0, 1, 1, 2, 3, 4, 5, 8, 20])
+    rows = random_graph(rng, n, rng.randrange(0, 3 * n + 1), greatest_weight(rng) if weighted else 1)
+    if not weighted:
+        rows = [[(target, 1) for target, _ in row] for row in rows]
+    source = rng.choice([0, 0, 0, rng.randrange(0, n + 2), n])
+    tokens = texts.graph_tokens(rows, weighted)
+    if rng.random() < 0.5:
+        tokens = texts.damaged(rng, tokens)
+    word, lines = right_witness(rng, rows, source)
+    if rng.random() < 0.5:
+        lines = tampered(rng, lines)
+    if rng.random() < 0.15:
+        lines = rng.choice([lines[1:], lines[:-1], lines + lines[:1]])
+    witness = texts.witness_tokens(word, no_dashes(lines) if word == "Cores" and rng.random() < 0.9 else lines)
+    if rng.random() < 0.15:
+        witness = texts.damaged(rng, witness)
+    return texts.spread(rng, tokens), texts.spread(rng, witness), source
+
+
+def scene(rng, rows, word, lines, source):
+    return texts.spread(rng, texts.graph_tokens(rows, True)), texts.spread(rng, texts.witness_tokens(word, lines)), source
+
+
+def tampered_cores(rng):
+    """Cores of a symmetric graph, and levels that are no rounds."""
+    n = rng.randrange(2, 10)
+    rows = random_pairs(rng, n, rng.randrange(n // 2, 3 * n))
+    lines = witnesses.cores_of(rows)
+    for _ in range(rng.choice([0, 1, 1, 2])):
+        line, other = rng.choice(lines), rng.choice(lines)
+        line[1] = rng.choice([other[1], other[1], 0, line[1] + 1, line[1] + CUT, GREATEST])
+    if rng.random() < 0.5:
+        line = rng.choice(lines)
+        line[0] = rng.choice([line[0] + 1, max(line[0], 1) - 1, line[0] + CUT, 0])
+    if rng.random() < 0.2:
+        lines = [[core, 0] for core, _ in lines]
+    return scene(rng, rows, "Cores", lines, rng.choice([0, 0, n - 1, n, 2**32 - 1]))
+
+
+def tampered_tree(rng):
+    """The distances of a graph in which most vertices are reached, with entries changed."""
+    n = rng.randrange(2, 9)
+    rows = random_graph(rng, n, rng.randrange(n, 4 * n), greatest_weight(rng))
+    source = rng.randrange(0, n)
+    lines = witnesses.tree_of(rows, source)
+    if rng.random() < 0.8:
+        lines = tampered(rng, lines)
+    if rng.random() < 0.1:
+        lines[source][rng.choice([1, 2])] = rng.choice([1, source])
+        rng.choice(lines)[0] = None
+    return scene(rng, rows, "Distances", lines, source)
+
+
+def tampered_cover(rng):
+    """A cover with sets that were not chosen, or with entries changed."""
+    n = rng.randrange(2, 9)
+    rows = random_graph(rng, n, rng.randrange(n // 2, 3 * n), 1)
+    lines = witnesses.cover_of(rng, rows)
+    if rng.random() < 0.5:
+        lines = tampered(rng, lines)
+    else:
+        s = rng.randrange(0, n)
+        lines[s][0] = None
+        rng.choice(lines)[1] = s
+    return scene(rng, rows, "Cover", lines, rng.choice([0, 0, n, 2**32 - 1]))
+
+
+def columns_of_unreached(rng):
+    """Hops or a parent where there is no distance."""
+    n = rng.randrange(2, 8)
+    rows = random_graph(rng, n, rng.randrange(0, n + 1), greatest_weight(rng))
+    source = rng.randrange(0, n)
+    lines = witnesses.tree_of(rows, source)
+    for line in lines:
+        if line[0] is None and rng.random() < 0.4:
+            line[rng.choice([1, 2])] = rng.choice([0, 1, source, n, GREATEST])
+    return scene(rng, rows, "Distances", lines, source)
+
+
+def wrapped(number):
+    """A sum as a program of 64 bits keeps it, None for the number that it keeps in place of a dash."""
+    number %= 2**64
+    return None if number == 2**64 - 1 else number
+
+
+def sums_at_the_end(rng):
+    """Two unreached vertices, the lesser with the greater as parent: its columns follow only if sums wrap or end at 2^64."""
+    n = rng.randrange(1, 4)
+    rows = random_graph(rng, n, rng.randrange(0, 2 * n), greatest_weight(rng)) + [[], []]
+    source, child, parent = rng.randrange(0, n), n, n + 1
+    lines = witnesses.tree_of(rows, source)
+    weight = rng.choice([0, 1, 2, 3, oracle.MAX_W, rng.randrange(0, oracle.MAX_W)])
+    rows[parent].append((child, weight))
+    if rng.random() < 0.6:
+        rows[child].append((rng.randrange(0, n + 2), rng.choice([0, 1, 2, oracle.MAX_W])))
+    dist = 7 if rng.random() < 0.2 else 2**64 - 1 - rng.choice([0, 0, 1, 1, 2, 3, weight, rng.randrange(0, oracle.MAX_W)])
+    hops = rng.choice([0, 1, 2**32 - 1, 2**64 - 2, 2**64 - 1])
+    lines[parent] = [wrapped(dist), wrapped(hops), rng.choice([None, source, child, parent])]
+    near = rng.choice([0, 0, 0, 1, -1])
+    lines[child] = [wrapped(dist + weight + near), wrapped(hops + 1), rng.choice([parent, parent, parent, parent + CUT])]
+    return scene(rng, rows, "Distances", lines, source)
+
+
+def ring_of_zeros(rng):
+    """Vertices that no walk reaches, each with the one before it in a ring of weight 0 as its parent."""
+    n, k = rng.randrange(1, 4), rng.randrange(1, 5)
+    rows = random_graph(rng, n, rng.randrange(0, 2 * n), greatest_weight(rng)) + [[] for _ in range(k)]
+    source = rng.randrange(0, n)
+    lines = witnesses.tree_of(rows, source)
+    dist = rng.choice([0, 1, 7, GREATEST])
+    steps = rng.choice([lambda i: 1, lambda i: i + 1, lambda i: k - i, lambda i: 2 * i, lambda i: None, lambda i: GREATEST - k + i])
+    for i in range(k):
+        rows[n + i].append((n + (i + 1) % k, 0))
+        lines[n + i] = [dist, steps(i), n + (i - 1) % k]
+    return scene(rng, rows, "Distances", lines, source)
+
+
+def replaced(rng, tokens, bounds):
+    """The tokens with a number just at or just above its bound; bounds are pairs of an index and a bound."""
+    at, bound = rng.choice(bounds)
+    tokens[at] = bound + rng.choice([0, 1, 1, CUT, 2**64])
+    return tokens
+
+
+def numbers_at_bounds(rng):
+    """A number of the graph file or of the witness file at its bound or above it."""
+    n = rng.randrange(1, 5)
+    rows = random_graph(rng, n, rng.randrange(1, 2 * n + 1), greatest_weight(rng))
+    source = rng.randrange(0, n)
+    graph, witness = texts.graph_tokens(rows, True), texts.witness_tokens("Distances", witnesses.tree_of(rows, source))
+    if rng.random() < 0.7:
+        replaced(rng, graph, [(1, oracle.MAX_N), (2, oracle.MAX_M), (rng.randrange(3, 3 + n), sum(map(len, rows))), (3 + n, n - 1),
+                              (len(graph) - 1, oracle.MAX_W)])
+    else:
+        replaced(rng, witness, [(1, oracle.MAX_N), (2 + 3 * source, GREATEST), (len(witness) - 1, GREATEST)])
+    return texts.spread(rng, graph), texts.spread(rng, witness), source
+
+
+# what may stand in place of a number
+NUMBERS = ["-", "-0", "-00", "-7", "--7", "-7-", "+0", "00", "1.0", "x", "1x", "0x0", "\x0b0", "\x000", "\xff", "\xb9"]
+
+
+def odd_token(rng):
+    """A header or a number of another form, in the graph file or in the witness file."""
+    n = rng.randrange(1, 5)
+    rows = random_graph(rng, n, rng.randrange(1, 2 * n + 1), greatest_weight(rng))
+    source = rng.randrange(0, n)
+    word, lines = right_witness(rng, rows, source)
+    graph, witness = texts.graph_tokens(rows, rng.random() < 0.7), texts.witness_tokens(word, lines)
+    tokens = rng.choice([graph, graph, witness])
+    at = rng.choice([0, 1, 2, rng.randrange(0, len(tokens)), len(tokens) - 1, len(tokens) - 1])
+    tokens[at] = rng.choice(NUMBERS) if at else rng.choice(["AdjacencyGraph", word, tokens[0].lower(), tokens[0] + "s", tokens[0][1:]])
+    return texts.spread(rng, graph), texts.spread(rng, witness), source
+
+
+# how often a scene is taken, and the scene
+SCENES = [
+    (8, any_texts),
+    (3, tampered_cores),
+    (3, tampered_tree),
+    (2, tampered_cover),
+    (1, columns_of_unreached),
+    (3, sums_at_the_end),
+    (1, ring_of_zeros),
+    (1, numbers_at_bounds),
+    (2, odd_token),
+]
+
+
+def random_scene(rng):
+    weights, makers = zip(*SCENES)
+    return rng.choices(makers, weights)[0](rng)

@@ -1,0 +1,100 @@
+"""Outputs that take no bytes, inputs that are closed, and what the program makes of them."""
+import os
+import subprocess
+
+import program
+
+GRAPH = b"WeightedAdjacencyGraph 3 3 0 2 2 1 2 1 5 1 2"
+WITNESS = b"Distances 3 0 0 - 3 2 2 1 1 0"
+DISTANCES = b"0\n3\n1\n"
+BROKEN = b"graph: Truncated at token 0, byte 0\n"
+NO_GRAPH, NO_WITNESS = b"read fault: graph\n", b"read fault: witness\n"
+
+WBFS = "wbfs --bare --source 0 g"
+WBFS_INPUT = "wbfs --bare --source 0 -"
+RANGE = "wbfs --bare --source 3 g"
+RANGE_LINE = b"source 3 is not below 3\n"
+
+# words, redirections of the shell, exit code, standard output, standard error; a stream that is redirected gets no bytes here
+RUNS = [
+    (WBFS, ">/dev/full", 6, b"", b"write fault\n"),
+    ("check g w", ">/dev/full", 6, b"", b"write fault\n"),
+    ("check g w --source 1", ">/dev/full", 6, b"", b"write fault\n"),
+    (RANGE, ">/dev/full", 4, b"", RANGE_LINE),
+    (RANGE, "2>/dev/full", 4, b"", b""),
+    ("peel g", "2>/dev/full", 2, b"", b""),
+    (WBFS, "2>/dev/full", 0, DISTANCES, b""),
+    ("check g w --source 1", "2>/dev/full", 1, b"no 0 Parent\n", b""),
+    (WBFS, ">/dev/full 2>/dev/full", 6, b"", b""),
+    (WBFS, ">&-", 6, b"", b"write fault\n"),
+    ("check g w", ">&-", 6, b"", b"write fault\n"),
+    (RANGE, "2>&-", 4, b"", b""),
+    (WBFS, "2>&-", 0, DISTANCES, b""),
+    (WBFS, "<&-", 0, DISTANCES, b""),
+    ("check g w", "<&-", 0, b"yes\n", b""),
+    (WBFS_INPUT, "<&-", 5, b"", NO_GRAPH),
+    ("check - w", "<&-", 5, b"", NO_GRAPH),
+    ("check g -", "<&-", 5, b"", NO_WITNESS),
+    (WBFS, "<&- >&- 2>&-", 6, b"", b""),
+    (WBFS_INPUT, "<.", 5, b"", NO_GRAPH),
+    (WBFS_INPUT, "</dev/null", 3, b"", BROKEN),
+    (WBFS_INPUT, "<g", 0, DISTANCES, b""),
+    ("check - w", "<g", 0, b"yes\n", b""),
+    ("check g -", "<w", 0, b"yes\n", b""),
+]
+
+
+def run_redirected(words, redirections, folder):
+    command = f'exec "$0" {words} {redirections}'
+    done = subprocess.run(["sh", "-c", command, program.PROGRAM], stdin=subprocess.DEVNULL, capture_output=True,
+                          cwd=folder, timeout=program.LONGEST)
+    return done.returncode, done.stdout, done.stderr
+
+
+def closed_pipe():
+    """The end for writing of a pipe whose other end is closed."""
+    reading, writing = os.pipe()
+    os.close(reading)
+    return writing
+
+
+def run_into_closed_pipe(words, stream, folder):
+    """The exit code and the bytes of the other output, where a stream is a pipe that nobody reads."""
+    pipe = closed_pipe()
+    streams = {"stdin": subprocess.DEVNULL, "stdout": subprocess.PIPE, "stderr": subprocess.PIPE, stream: pipe}
+    done = subprocess.run([program.PROGRAM, *words.split()], cwd=folder, timeout=program.LONGEST, **streams)
+    os.close(pipe)
+    return done.returncode, done.stderr if stream == "stdout" else done.stdout
+
+
+# words, the stream that nobody reads, exit code, the bytes of the other output
+CLOSED_PIPES = [
+    (WBFS, "stdout", 6, b"write fault\n"),
+    ("check g w", "stdout", 6, b"write fault\n"),
+    (RANGE, "stdout", 4, RANGE_LINE),
+    (RANGE, "stderr", 4, b""),
+    ("peel g", "stderr", 2, b""),
+    (WBFS, "stderr", 0, DISTANCES),
+]
+
+
+def run_in_pieces(words, text, folder):
+    """The program's answer to a text that comes byte by byte."""
+    with subprocess.Popen([program.PROGRAM, *words.split()], cwd=folder, stdin=subprocess.PIPE, stdout=subprocess.PIPE,
+                          stderr=subprocess.PIPE, bufsize=0) as started:
+        for at in range(len(text)):
+            started.stdin.write(text[at:at + 1])
+        out, err = started.communicate(timeout=program.LONGEST)
+    return started.returncode, out, err
+
+
+def test(tally, folder):
+    program.write(folder, "g", GRAPH)
+    program.write(folder, "w", WITNESS)
+    for words, redirections, *wanted in RUNS:
+        if "/dev/full" in redirections and not os.path.exists("/dev/full"):
+            continue
+        tally.compare(f"{words} {redirections}", run_redirected(words, redirections, folder), tuple(wanted))
+    for words, stream, *wanted in CLOSED_PIPES:
+        tally.compare(f"{words}, nobody reads its {stream}", run_into_closed_pipe(words, stream, folder), tuple(wanted))
+    tally.compare("input byte by byte", run_in_pieces(WBFS_INPUT, GRAPH, folder), (0, DISTANCES, b""))
