@@ -8,7 +8,7 @@ use Rattle.jul_base.specs.Graph.{target, weight, IsPlaceOf, IsLawful}
 use Rattle.jul_base.specs.Logs.{Log, Entry, STAMP}
 use Rattle.jul_base.proofs.RowLaws.{IsPlaceOf-unique}
 use Rattle.jul_base.proofs.SetLaws.{Contains-cons, Contains-cons_cases}
-use Rattle.jul_pool.specs.Times.{times}
+use Rattle.jul_base.specs.Times.{times}
 use Rattle.jul_pool.specs.Added.{first_part, entries_of}
 use Rattle.jul_words.specs.Weights.{weigh}
 use Rattle.jul_words.specs.Marks.{is_marked}
