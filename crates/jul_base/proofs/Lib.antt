@@ -1,4 +1,5 @@
 pub mod NumberLaws
+pub mod TimesLaws
 pub mod GraphLaws
 pub mod SinkLaws
 pub mod SendingLaws

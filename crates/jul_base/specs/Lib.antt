@@ -1,4 +1,5 @@
 pub mod Numbers
+pub mod Times
 pub mod Graph
 pub mod Walks
 pub mod Distances

@@ -13,7 +13,7 @@ use Rattle.jul_pool.specs.Added.{followed_by_all}
 use Rattle.jul_subset.specs.Applications.{Done, answered_true, AppliedInOrder}
 use Rattle.jul_edge.specs.declared.functions.Direction.{Direction}
 use Rattle.jul_edge.specs.Edges.{Application, IsWanted}
-use Rattle.jul_edge.specs.Visits.{Step, Visited, noted_of, VisitedInOrder, HasVisited}
+use Rattle.jul_rows.specs.Visits.{Step, Visited, noted_of, VisitedInOrder, HasVisited}
 use Rattle.jul_edge.specs.Covers.{app_of, Applies}
 
 module _ {T : Type 0} (by : Direction) (g : RawGraph) (gives : Application → Bool → Log → Type 0) (log : T → Log) where

@@ -9,12 +9,12 @@ use Rattle.jul_base.specs.declared.graphs.RawGraph.{RawGraph}
 use Rattle.jul_base.specs.Graph.{vertices, row_start, row_end, target, IsPlaceOf, IsLawful}
 use Rattle.jul_base.proofs.GraphLaws.{row_start-le-row_end}
 use Rattle.jul_base.proofs.RowLaws.{IsPlaceOf-unique}
-use Rattle.jul_pool.specs.Times.{times}
-use Rattle.jul_pool.proofs.TimesLaws.{times-append, times_here, times_other}
+use Rattle.jul_base.specs.Times.{times}
+use Rattle.jul_base.proofs.TimesLaws.{times-append, times_here, times_other}
 use Rattle.jul_edge.specs.declared.functions.Direction.{Direction}
 use Rattle.jul_edge.specs.declared.functions.Direction.TheVariants.{Push}
 use Rattle.jul_edge.specs.Edges.{Application, IsWanted, places_of}
-use Rattle.jul_edge.specs.Visits.{Step, step, push_steps}
+use Rattle.jul_rows.specs.Visits.{Step, step, push_steps}
 use Rattle.jul_edge.specs.Covers.{key_of, app_of, Covers}
 
 -- applications to chosen steps among those of a range

@@ -15,8 +15,8 @@ use Rattle.jul_base.proofs.GraphLaws.{place_in_range}
 use Rattle.jul_base.proofs.RowLaws.{IsPlaceOf-unique}
 use Rattle.jul_base.proofs.InRowLaws.{Contains-in_places, in_places-at, IsStrictlyIncreasing-in_places}
 use Rattle.jul_base.proofs.SetLaws.{Contains-from_has, has-from_Contains, Contains-below, IsStrictlyIncreasing-below}
-use Rattle.jul_pool.specs.Times.{times}
-use Rattle.jul_pool.proofs.TimesLaws.{times_here, times_other}
+use Rattle.jul_base.specs.Times.{times}
+use Rattle.jul_base.proofs.TimesLaws.{times_here, times_other}
 use Rattle.jul_subset.proofs.IncreasingLaws.{apart}
 use Rattle.std.proofs.lemmas.List.FromFn.{length-range_with_len, get_or-range_with_len}
 use Rattle.jul_pool.specs.Runs.{EachRunOnce}
@@ -26,7 +26,8 @@ use Rattle.jul_subset.proofs.ApplicationLaws.{NotesChunk, all_gathered}
 use Rattle.jul_subset.proofs.PickingLaws.{same_holds}
 use Rattle.jul_edge.specs.declared.functions.Direction.TheVariants.{Pull}
 use Rattle.jul_edge.specs.Edges.{Application, IsWanted}
-use Rattle.jul_edge.specs.Visits.{Step, step, IsPulled, pull_steps, wanted_steps}
+use Rattle.jul_rows.specs.Visits.{Step, step}
+use Rattle.jul_edge.specs.Pulls.{IsPulled, pull_steps, wanted_steps}
 use Rattle.std.specs.List.Sorted.{IsStrictlyIncreasing}
 use Rattle.jul_subset.specs.Chunks.{chunk_of}
 use Rattle.jul_edge.specs.Covers.{app_of, Covers, WantedGives}

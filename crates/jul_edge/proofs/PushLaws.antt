@@ -16,7 +16,7 @@ use Rattle.jul_subset.proofs.ApplicationLaws.{applied_from_nil}
 use Rattle.jul_edge.specs.declared.functions.Direction.{Direction}
 use Rattle.jul_edge.specs.declared.functions.Direction.TheVariants.{Push}
 use Rattle.jul_edge.specs.Edges.{Application, IsWanted}
-use Rattle.jul_edge.specs.Visits.{Step, IsPushed, HasPushed, noted_of}
+use Rattle.jul_rows.specs.Visits.{Step, IsPushed, HasPushed, noted_of}
 use Rattle.jul_edge.specs.Covers.{app_of, Applies, WantedGives}
 use Rattle.jul_edge.specs.Pushes.{MayPush, StampedGives, stamp_of, no_entries}
 use Rattle.jul_edge.proofs.ApplyingLaws.{applied_steps}

@@ -15,8 +15,8 @@ use Rattle.jul_base.proofs.LogLaws.{append-equal}
 use Rattle.jul_base.proofs.SetLaws.{Contains-cons_cases}
 use Rattle.jul_pool.specs.Added.{followed_by_all}
 use Rattle.jul_pool.specs.Runs.{EachRunOnce}
-use Rattle.jul_pool.specs.Times.{times}
-use Rattle.jul_pool.proofs.TimesLaws.{times-append, times_here, times_other}
+use Rattle.jul_base.specs.Times.{times}
+use Rattle.jul_base.proofs.TimesLaws.{times-append, times_here, times_other}
 use Rattle.jul_words.specs.Seats.{Seat}
 use Rattle.jul_subset.specs.Applications.{Done, answered_true}
 use Rattle.jul_subset.specs.Chunks.{chunk_of}

@@ -2,13 +2,13 @@
 use Rattle.std.specs.Prelude.{ℕ, List, ◌≡◌, Bool, All}
 use Rattle.jul_base.specs.declared.graphs.RawGraph.{RawGraph}
 use Rattle.jul_base.specs.Graph.{weight}
-use Rattle.jul_pool.specs.Times.{times}
+use Rattle.jul_base.specs.Times.{times}
 use Rattle.jul_edge.specs.declared.functions.Direction.{Direction}
 use Rattle.jul_edge.specs.declared.functions.Direction.TheVariants.{Push, Pull}
 use Rattle.jul_edge.specs.Edges.{Application, application, IsWanted, places_of}
 use Rattle.jul_base.specs.Logs.{Log}
 use Rattle.jul_pool.specs.Added.{HasAdded}
-use Rattle.jul_edge.specs.Visits.{Step, Visited}
+use Rattle.jul_rows.specs.Visits.{Step, Visited}
 
 -- the vertex by which the work is cut: the source in a push, the target in a pull
 abbrev pub key_of : Direction → Application → ℕ

@@ -2,7 +2,7 @@
 use Rattle.std.specs.Prelude.{ℕ, List, ◌≡◌, Bool, true, map, All, Contains}
 use Rattle.jul_base.specs.declared.graphs.RawGraph.{RawGraph}
 use Rattle.jul_base.specs.Graph.{target, weight, IsPlaceOf}
-use Rattle.jul_pool.specs.Times.{times}
+use Rattle.jul_base.specs.Times.{times}
 use Rattle.jul_edge.specs.declared.functions.Direction.{Direction}
 
 -- one application: the direction in which the place is walked, its source, the place, its target and its weight

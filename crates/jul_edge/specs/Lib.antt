@@ -1,6 +1,5 @@
 pub mod Edges
 pub mod EdgeMaps
-pub mod Visits
 pub mod Covers
 pub mod Pushes
 pub mod Pulls

@@ -10,7 +10,7 @@ use Rattle.jul_words.specs.Seats.{Seat, entry}
 use Rattle.jul_subset.specs.Applications.{Done}
 use Rattle.jul_edge.specs.declared.functions.Direction.TheVariants.{Push}
 use Rattle.jul_edge.specs.Edges.{Application, IsWanted, AreWantedOnce}
-use Rattle.jul_edge.specs.Visits.{push_steps}
+use Rattle.jul_rows.specs.Visits.{push_steps}
 use Rattle.jul_edge.specs.Covers.{app_of}
 
 -- a log of so many parts without an entry

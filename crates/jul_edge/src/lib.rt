@@ -9,9 +9,7 @@ mod maps;
 mod pulling;
 mod pulls;
 mod pushes;
-mod pushing;
 mod switching;
-mod visits;
 
 pub use functions::{Direction, EdgeFn};
 pub use maps::{EdgeOut, PullOut};

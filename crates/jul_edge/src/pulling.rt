@@ -2,10 +2,10 @@
 ghost use Rattle.std.specs.Prelude.{◌≡◌, ℕ, ◌-◌, ◌<◌, ◌≤◌, [], ◌∷◌, true, OnOk, Contains, length, if◌then◌else◌};
 ghost use Rattle.std.specs.List.{flat_map, range_with_len};
 ghost use Rattle.jul_base.specs.Sets.{has};
-ghost use Rattle.jul_edge.specs.Visits.{Step, step, pull_steps, wanted_steps, IsSame, IsPulled, HasPushed};
+ghost use Rattle.jul_rows.specs.Visits.{Step, step, IsSame, HasPushed};
+ghost use Rattle.jul_edge.specs.Pulls.{pull_steps, wanted_steps, IsPulled};
 
-use crate::visits::Visit;
-use jul_rows::InRows;
+use jul_rows::{InRows, Visit};
 use jul_subset::VertexSubset;
 use std::alloc::AllocError;
 

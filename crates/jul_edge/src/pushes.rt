@@ -15,11 +15,9 @@ ghost use Rattle.std.specs.List.Sorted.{IsStrictlyIncreasing};
 
 use crate::functions::{Direction, EdgeFn};
 use crate::maps::EdgeOut;
-use crate::pushing::push_members;
-use crate::visits::Visit;
 use jul_base::{Gate, Share};
 use jul_pool::{Job, Team, run_all};
-use jul_rows::Rows;
+use jul_rows::{Rows, Visit, push_members};
 use jul_subset::{VertexSubset, chunk_at, joined};
 use jul_words::{Both, StampHand, StampSeat, StampWords};
 use std::alloc::{AllocError, Global};

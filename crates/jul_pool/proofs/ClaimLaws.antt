@@ -9,9 +9,9 @@ use mathlib.Core.Option.{some, none, some-ne-none, some-injective}
 use lib.ListN.{get_elem?}
 use Rattle.atomic_table.proofs.Lists.{at_set, at_snoc, set_else}
 use Rattle.jul_pool.specs.declared.claim_rule.View.{View}
-use Rattle.jul_pool.specs.Times.{times, EachOnceBelow}
+use Rattle.jul_base.specs.Times.{times, EachOnceBelow}
 use Rattle.jul_pool.specs.Claims.{total, end_numbers, part_view, spent_view, with_claim, with_part, joined, FitsRule, IsClaimed, Keeps, Claimed}
-use Rattle.jul_pool.proofs.TimesLaws.{times-append, times_here, times_other}
+use Rattle.jul_base.proofs.TimesLaws.{times-append, times_here, times_other}
 use Rattle.jul_pool.proofs.TotalLaws.{total_set, total_push, total_at, total_le_but, total_add, total_some, total_others, total_only}
 
 pub end_numbers-append : (chunks : ℕ) (xs ys : List ℕ) → end_numbers chunks (xs ++ ys) ≡ end_numbers chunks xs + end_numbers chunks ys

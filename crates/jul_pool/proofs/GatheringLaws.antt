@@ -5,9 +5,9 @@ use Rattle.std.proofs.lemmas.List.Elements.{All-append}
 use Rattle.jul_base.specs.Logs.{Log, Home, followed_by, empty_log}
 use Rattle.jul_base.proofs.LogLaws.{followed_by-assoc}
 use Rattle.jul_pool.specs.Added.{followed_by_all}
-use Rattle.jul_pool.specs.Times.{times, EachOnceBelow}
+use Rattle.jul_base.specs.Times.{times, EachOnceBelow}
 use Rattle.jul_pool.specs.Runs.{Run, IsRun, EachRunOnce, Did}
-use Rattle.jul_pool.proofs.TimesLaws.{times-append, times_here, times_other}
+use Rattle.jul_base.proofs.TimesLaws.{times-append, times_here, times_other}
 use Rattle.jul_pool.proofs.RunLaws.{followed_by_all-append}
 
 -- what was put behind one log can be put behind another that the first one follows

@@ -4,7 +4,7 @@ use mathlib.Core.Option.{some}
 use lib.ListN.{get_elem?}
 use Rattle.atomic_table.specs.Table.{State, Me, Step}
 use Rattle.jul_pool.specs.declared.claim_rule.View.{View}
-use Rattle.jul_pool.specs.Times.{times}
+use Rattle.jul_base.specs.Times.{times}
 
 -- f of each view, added up
 abbrev pub total : (View → ℕ) → List View → ℕ

@@ -1,4 +1,3 @@
-pub mod Times
 pub mod Added
 pub mod Claims
 pub mod Runs

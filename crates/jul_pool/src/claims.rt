@@ -4,7 +4,7 @@
 //! number that isn't below the number of chunks. Between any two steps the rule of `claim_rule` holds.
 ghost use Rattle.std.specs.Prelude.{◌≡◌, ℕ, ◌+◌, ◌<◌, ◌≤◌, ◌^◌, [], ◌++◌, ◌∷◌, IfOk};
 ghost use Rattle.jul_pool.specs.Claims.{root_view, part_view, with_claim, with_part, joined, end_numbers};
-ghost use Rattle.jul_pool.specs.Times.{times, EachOnceBelow};
+ghost use Rattle.jul_base.specs.Times.{times, EachOnceBelow};
 
 use crate::claim_rule::{Claim, ClaimRule, Lend, Return, View};
 use atomic_table::Table;

@@ -1,7 +1,7 @@
 //! What the workers did, put together: the logs and the claims in the root, and all results in one list.
 ghost use Rattle.std.specs.Prelude.{◌≡◌, ℕ, ◌+◌, ◌-◌, ◌<◌, ◌≤◌, ◌++◌, [], true, map, All, IfOk, OnOk, vec_len};
 ghost use Rattle.jul_base.specs.Logs.{followed_by};
-ghost use Rattle.jul_pool.specs.Times.{times};
+ghost use Rattle.jul_base.specs.Times.{times};
 ghost use Rattle.jul_pool.specs.Runs.{Did};
 ghost use Rattle.jul_pool.specs.Workers.{IsWorked};
 

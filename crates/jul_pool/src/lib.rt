@@ -20,4 +20,4 @@ mod workers;
 
 pub use jobs::{Job, RunOut};
 pub use running::run_all;
-pub use teams::{MAX_CHUNK, MAX_WORKERS, Team};
+pub use teams::{MAX_CHUNK, MAX_WORKERS, Team, WORK_FOR_A_WORKER};

@@ -1,6 +1,6 @@
 //! Results put in the order of their chunks. Nothing here knows of threads.
 ghost use Rattle.std.specs.Prelude.{◌≡◌, List, length, map, Some, IfOk, All, slice_get};
-ghost use Rattle.jul_pool.specs.Times.{EachOnceBelow};
+ghost use Rattle.jul_base.specs.Times.{EachOnceBelow};
 
 use std::alloc::{AllocError, Global};
 

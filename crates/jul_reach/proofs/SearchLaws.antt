@@ -1,26 +1,25 @@
 -- A round of a search, and where it ends.
-use Rattle.std.proofs.Common.{◌≡◌, ◌↔◌, ℕ, ◌+◌, ◌<◌, ◌≤◌, Bool, true, false, not, List, [], ◌∷◌, ◌++◌, length, get_or, set, replicate, take, drop, map, cond, sym, ◌∙◌, ap, subst, refl, arith, inl, inr}
+use Rattle.std.proofs.Common.{◌≡◌, ◌↔◌, ℕ, ◌+◌, ◌<◌, ◌≤◌, Bool, true, false, not, List, [], ◌∷◌, ◌++◌, length, get_or, set, replicate, take, drop, cond, sym, ◌∙◌, ap, subst, refl, arith, inl, inr}
 use Rattle.std.specs.List.{Contains, All, count_by}
 use Rattle.std.proofs.lemmas.Bool.{cases_eq, cases_lt, cases_Bool, both_ways, not-true, not_from_false}
 use Rattle.std.proofs.lemmas.List.{get_or-set_same, get_or-set_other, get_or-replicate, length-set, length-replicate, get_or_past}
-use Rattle.std.proofs.lemmas.List.Elements.{All-contains, All-weaker, All-append, All-nil, All-cons, All-head, All-tail, All-from_get_or, Contains-get_or}
+use Rattle.std.proofs.lemmas.List.Elements.{All-contains, All-nil, All-cons, All-from_get_or, Contains-get_or}
 use Rattle.std.proofs.lemmas.List.Sums.{sum_by-set, count_by-le-length}
 use Rattle.std.proofs.Math.Seq.{take-append_seam}
 use Rattle.jul_base.specs.declared.graphs.RawGraph.{RawGraph}
-use Rattle.jul_base.specs.Graph.{vertices, target, weight, IsPlaceOf}
+use Rattle.jul_base.specs.Graph.{vertices, target, weight, IsPlaceOf, IsLawful}
 use Rattle.jul_base.specs.Walks.{IsWalk}
-use Rattle.jul_base.specs.Logs.{Log, Entry, STAMP}
-use Rattle.jul_pool.specs.Times.{times}
+use Rattle.jul_base.specs.Logs.{Log}
 use Rattle.jul_base.proofs.WalkLaws.{IsWalk-push}
 use Rattle.jul_words.specs.Seats.{Seat}
 use Rattle.jul_subset.specs.Subsets.{Subset}
 use Rattle.jul_edge.specs.declared.functions.Direction.{Direction}
-use Rattle.jul_edge.specs.Edges.{Application, application, IsWanted, places_of}
+use Rattle.jul_edge.specs.Edges.{Application, application, IsWanted}
 use Rattle.jul_edge.specs.EdgeMaps.{IsMapped, CanStamp, HasStamped}
+use Rattle.jul_edge.proofs.MappedLaws.{EdgeDone, OneOf, hits_of, applied_to, made_wanted, hit, hit_by, stamps_later}
 use Rattle.jul_reach.specs.Reaching.{mark_at, IsReached}
 use Rattle.jul_reach.specs.Searching.{IsReaching, IsSearching, remaining}
 use Rattle.jul_reach.proofs.MarkLaws.{HasMarked}
-use Rattle.jul_reach.proofs.HitLaws.{Application_done, HasTarget, HasHit, hit_from, hit_at, targets_hit}
 
 -- ---- the end
 
@@ -70,45 +69,39 @@ begun_few n source lt =
 
 -- ---- a round
 
-All-from_map : (P : Application → Type 0) (done : List Application_done) → All P (map (λ (d : Application_done). d.to) done) → All (λ (d : Application_done). P d.to) done
-All-from_map P [] h = All-nil (λ (d : Application_done). P d.to)
-All-from_map P (d ∷ ds) h =
-    All-cons (λ (d : Application_done). P d.to) d ds (All-head P d.to (map (λ (d : Application_done). d.to) ds) h)
-    (All-from_map P ds (All-tail P d.to (map (λ (d : Application_done). d.to) ds) h))
-
-module _ (g : RawGraph) (source : ℕ) (by : Direction) (marks marks' : List Bool) (frontier : List ℕ) (subset : Subset) (gives : Application → Bool → Log → Type 0) (old new : Log) (always : (a : Application) (answer : Bool) (added : Log) → gives a answer added → answer ≡ true) (h : IsReaching g source marks frontier) (mapped : IsMapped by g frontier (λ v. not (mark_at marks v)) gives old new subset) where
+module _ (g : RawGraph) (lawful : IsLawful g) (source : ℕ) (by : Direction) (marks marks' : List Bool) (frontier : List ℕ) (subset : Subset) (gives : Application → Bool → Log → Type 0) (old new : Log) (always : (a : Application) (answer : Bool) (added : Log) → gives a answer added → answer ≡ true) (h : IsReaching g source marks frontier) (mapped : IsMapped by g frontier (λ v. not (mark_at marks v)) gives old new subset) where
   abbrev Wanted : Application → Type 0
   Wanted = IsWanted by g frontier (λ v. not (mark_at marks v))
 
-  made : All (λ (d : Application_done). Wanted d.to) mapped.done
-  made = All-from_map Wanted mapped.done mapped.once.no_other
+  answered : (d : EdgeDone) → Contains mapped.done d → d.answer ≡ true
+  answered d there = always d.to d.answer d.added (All-contains (λ (e : EdgeDone). gives e.to e.answer e.added) mapped.done d mapped.applied.each there)
 
-  answers : All (λ (d : Application_done). d.answer ≡ true) mapped.done
-  answers = All-weaker (λ (d : Application_done). gives d.to d.answer d.added) (λ (d : Application_done). d.answer ≡ true) (λ d given. always d.to d.answer d.added given) mapped.done mapped.applied.each
-
-  hit : (v : ℕ) → Contains subset.members v → HasTarget Wanted v
-  hit v there = hit_from Wanted mapped.done v made answers ((mapped.members_are v).0 there)
+  -- a vertex of the next frontier is the target of a wanted place
+  reached_by : (v : ℕ) → Contains subset.members v → OneOf mapped.done (λ d. Wanted d.to × (d.to.target ≡ v))
+  reached_by v there =
+      let one = hit_by mapped.done v ((mapped.members_are v).0 there) in
+      record { one = one.one; there = one.there; holds = (made_wanted by g frontier (λ v. not (mark_at marks v)) mapped.done mapped.once one.one one.there, one.holds.1) }
 
   pub unmarked : (v : ℕ) → Contains subset.members v → mark_at marks v ≡ false
   unmarked v there =
-      let t : HasTarget Wanted v = hit v there in
-      sym (ap (mark_at marks) t.target_is) ∙ not-true (mark_at marks t.app.target) t.holds.target_wanted
+      let t = reached_by v there in
+      sym (ap (mark_at marks) t.holds.1) ∙ not-true (mark_at marks t.one.to.target) t.holds.0.target_wanted
 
   reached : (v : ℕ) → Contains subset.members v → IsReached g source v
   reached v there =
-      let t : HasTarget Wanted v = hit v there in
-      let walk : IsReached g source t.app.source = h.sound t.app.source (All-contains (λ v. mark_at marks v ≡ true) frontier t.app.source h.marked t.holds.member) in
-      (walk.0 ++ t.app.place ∷ [], subst (IsWalk g source (walk.0 ++ t.app.place ∷ [])) (sym t.holds.target_is ∙ t.target_is) (IsWalk-push g source t.app.source t.app.place walk.0 walk.1 t.holds.place))
+      let t = reached_by v there in
+      let w : Wanted t.one.to = t.holds.0 in
+      let walk : IsReached g source t.one.to.source = h.sound t.one.to.source (All-contains (λ v. mark_at marks v ≡ true) frontier t.one.to.source h.marked w.member) in
+      (walk.0 ++ t.one.to.place ∷ [], subst (IsWalk g source (walk.0 ++ t.one.to.place ∷ [])) (sym w.target_is ∙ t.holds.1) (IsWalk-push g source t.one.to.source t.one.to.place walk.0 walk.1 w.place))
 
   -- a place of the frontier leads to a vertex that was marked, or is hit
   hits : (u p : ℕ) → IsPlaceOf g u p → Contains frontier u → mark_at marks (target g p) ≡ false → Contains subset.members (target g p)
   hits u p at there free =
       let a : Application = application by u p (target g p) (weight g p) in
       let wanted : Wanted a = record { by_is = refl; member = there; place = at; target_is = refl; weight_is = refl; target_wanted = not_from_false (mark_at marks (target g p)) free } in
-      let once : times p (places_of (map (λ (d : Application_done). d.to) mapped.done)) ≡ 1 = mapped.once.once a wanted in
-      let found : HasHit Wanted (targets_hit mapped.done) p = hit_at Wanted mapped.done p made answers (omega (arith, once)) in
-      let same : found.app.target ≡ target g p = found.holds.target_is ∙ ap (target g) found.place_is in
-      (mapped.members_are (target g p)).1 (subst (Contains (targets_hit mapped.done)) same found.hit_is)
+      let found : OneOf mapped.done (λ d. d.to ≡ a) = applied_to by g frontier (λ v. not (mark_at marks v)) mapped.done lawful mapped.once a wanted in
+      let held : Contains (hits_of mapped.done) found.one.to.target = hit mapped.done found.one found.there (answered found.one found.there) in
+      (mapped.members_are (target g p)).1 (subst (Contains (hits_of mapped.done)) (ap (λ (b : Application). b.target) found.holds) held)
 
   pub next : HasMarked marks marks' subset.members → length marks' ≡ length marks → IsReaching g source marks' subset.members
   next done size = record {
@@ -128,49 +121,36 @@ module _ (g : RawGraph) (source : ℕ) (by : Direction) (marks marks' : List Boo
     ];
   }
 
--- the seat may stamp with the next round
-pub stamps_on : (n : ℕ) (table : List ℕ) (round : ℕ) (by : Direction) (old new : Seat) → CanStamp n table round old → HasStamped by round old new → CanStamp n table (round + 1) new
-stamps_on n table round by old new can has = record {
-  of_table = ap (λ (s : Seat). s.home.table) has.seat_is ∙ can.of_table;
-  words = ap (λ (s : Seat). length s.home.starts) has.seat_is ∙ can.words;
-  alone = (ap (λ (s : Seat). s.root) has.seat_is ∙ can.alone.0, ap (λ (s : Seat). s.out) has.seat_is ∙ can.alone.1);
-  some = omega arith;
-  above = subst (All (λ (e : Entry). e.number < round + 1)) (sym (ap (λ (s : Seat). s.log) has.seat_is))
-      (All-append (λ (e : Entry). e.number < round + 1) old.log has.entries
-      (All-weaker (λ (e : Entry). e.number < round) (λ (e : Entry). e.number < round + 1) (λ e lt. omega (arith, lt)) old.log can.above)
-      (All-weaker (λ (e : Entry). (e.kind ≡ STAMP) × (e.number ≡ round)) (λ (e : Entry). e.number < round + 1) (λ e is. omega (arith, is.1)) has.entries has.of_round));
-}
-
 -- what a write through a part of a vector leaves
 pub written : (after marks : List Bool) (len : ℕ) → length after ≡ len → take len (after ++ drop (length after) marks) ≡ after
 written after marks len e = ap (λ n. take n (after ++ drop (length after) marks)) (sym e) ∙ take-append_seam after (drop (length after) marks)
 
 -- one round: the seen marks, and those before the hit vertices got theirs, are the marks
-pub searched_on : (g : RawGraph) (source : ℕ) (table : List ℕ) (marks seen before after : List Bool) (frontier subset : Subset) (ids : List ℕ) (seat seat' : Seat) (round : ℕ) (by : Direction)
+pub searched_on : (g : RawGraph) → IsLawful g → (source : ℕ) (table : List ℕ) (marks seen before after : List Bool) (frontier subset : Subset) (ids : List ℕ) (seat seat' : Seat) (round : ℕ) (by : Direction)
     (gives : Application → Bool → Log → Type 0) (old new : Log) → ((a : Application) (answer : Bool) (added : Log) → gives a answer added → answer ≡ true) →
     seen ≡ marks → before ≡ marks → ids ≡ subset.members → length after ≡ length before →
     IsSearching g source table marks frontier seat round → 0 < length frontier.members → IsMapped by g frontier.members (λ v. not (mark_at seen v)) gives old new subset →
     HasStamped by round seat seat' → HasMarked before after ids → IsSearching g source table after subset seat' (round + 1)
-searched_on g source table marks seen before after frontier subset ids seat seat' round by gives old new always seen_is before_is ids_are size h some mapped stamped marked =
+searched_on g lawful source table marks seen before after frontier subset ids seat seat' round by gives old new always seen_is before_is ids_are size h some mapped stamped marked =
     let mapped' : IsMapped by g frontier.members (λ v. not (mark_at marks v)) gives old new subset = subst (λ m. IsMapped by g frontier.members (λ v. not (mark_at m v)) gives old new subset) seen_is mapped in
     let here : HasMarked marks after ids = subst (λ m. HasMarked m after ids) before_is marked in
     let done : HasMarked marks after subset.members = subst (HasMarked marks after) ids_are here in
     record {
-      reaching = next g source by marks after frontier.members subset gives old new always h.reaching mapped' done (size ∙ ap length before_is);
+      reaching = next g lawful source by marks after frontier.members subset gives old new always h.reaching mapped' done (size ∙ ap length before_is);
       n = mapped.n;
-      stamps = stamps_on (vertices g) table round by seat seat' h.stamps stamped;
+      stamps = stamps_later (vertices g) table round (round + 1) by seat seat' (omega arith) h.stamps stamped;
       few = omega (arith, h.few, some, done.fewer);
     }
 
 -- the hit vertices have no mark yet
-pub hit_unmarked : (g : RawGraph) (source : ℕ) (table : List ℕ) (marks seen before : List Bool) (frontier subset : Subset) (ids : List ℕ) (seat : Seat) (round : ℕ) (by : Direction)
+pub hit_unmarked : (g : RawGraph) → IsLawful g → (source : ℕ) (table : List ℕ) (marks seen before : List Bool) (frontier subset : Subset) (ids : List ℕ) (seat : Seat) (round : ℕ) (by : Direction)
     (gives : Application → Bool → Log → Type 0) (old new : Log) → ((a : Application) (answer : Bool) (added : Log) → gives a answer added → answer ≡ true) →
     seen ≡ marks → before ≡ marks → ids ≡ subset.members → IsSearching g source table marks frontier seat round →
     IsMapped by g frontier.members (λ v. not (mark_at seen v)) gives old new subset → All (λ v. mark_at before v ≡ false) ids
-hit_unmarked g source table marks seen before frontier subset ids seat round by gives old new always seen_is before_is ids_are h mapped =
+hit_unmarked g lawful source table marks seen before frontier subset ids seat round by gives old new always seen_is before_is ids_are h mapped =
     let mapped' : IsMapped by g frontier.members (λ v. not (mark_at marks v)) gives old new subset = subst (λ m. IsMapped by g frontier.members (λ v. not (mark_at m v)) gives old new subset) seen_is mapped in
     let free : All (λ v. mark_at marks v ≡ false) subset.members = All-from_get_or (λ v. mark_at marks v ≡ false) subset.members 0
-    (λ k lt. unmarked g source by marks marks frontier.members subset gives old new always h.reaching mapped' (get_or subset.members k 0) (Contains-get_or subset.members k 0 lt)) in
+    (λ k lt. unmarked g lawful source by marks marks frontier.members subset gives old new always h.reaching mapped' (get_or subset.members k 0) (Contains-get_or subset.members k 0 lt)) in
     subst (All (λ v. mark_at before v ≡ false)) (sym ids_are) (subst (λ m. All (λ v. mark_at m v ≡ false) subset.members) (sym before_is) free)
 
 -- a search begins with the source alone

@@ -3,3 +3,4 @@ pub mod FillingLaws
 pub mod TallyLaws
 pub mod BalanceLaws
 pub mod GatheringLaws
+pub mod VisitLaws

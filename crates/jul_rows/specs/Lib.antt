@@ -2,3 +2,4 @@ pub mod Cuts
 pub mod Filling
 pub mod Balance
 pub mod Gathering
+pub mod Visits

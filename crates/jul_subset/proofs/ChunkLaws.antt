@@ -7,9 +7,9 @@ use Rattle.std.proofs.lemmas.Bool.{cases_eq}
 use Rattle.jul_base.specs.Logs.{Log}
 use Rattle.jul_base.specs.Numbers.{below}
 use Rattle.jul_base.proofs.PartLaws.{below-more}
-use Rattle.jul_pool.specs.Times.{times, EachOnceBelow}
+use Rattle.jul_base.specs.Times.{times, EachOnceBelow}
 use Rattle.jul_pool.specs.Runs.{Run, IsRun, EachRunOnce}
-use Rattle.jul_pool.proofs.TimesLaws.{times-append, times_here, times_other}
+use Rattle.jul_base.proofs.TimesLaws.{times-append, times_here, times_other}
 use Rattle.jul_subset.specs.Chunks.{chunk_of}
 
 -- what is left from one chunk on is that chunk and what is left from the next one on

@@ -1,7 +1,8 @@
 use Rattle.std.proofs.Common.{◌∙◌, ap, sym, ◌++◌, ◌∷◌, [], if◌then◌else◌}
 use Rattle.std.proofs.lemmas.List.{append-nil}
-use Rattle.jul_edge.specs.Visits.{step}
-use Rattle.jul_edge.proofs.VisitLaws.{has_test, pushed_chosen, pushed_unchosen}
+use Rattle.jul_rows.specs.Visits.{step}
+use Rattle.jul_rows.proofs.VisitLaws.{pushed_chosen, pushed_unchosen}
+use Rattle.jul_edge.proofs.PullingLaws.{has_test}
 use Rattle.jul_edge.proofs.pulling.pull_place.Goals as goal
 
 pub returns-then-not-contains-clause-pulled : goal.returns-then-not-contains-clause-pulled

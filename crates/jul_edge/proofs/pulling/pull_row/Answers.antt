@@ -1,6 +1,7 @@
 use Rattle.std.proofs.Common.{get_or, ap, List, ℕ, []}
 use Rattle.std.specs.List.{slice_index_or}
-use Rattle.jul_edge.proofs.VisitLaws.{same_then, pull_more, pushed_append}
+use Rattle.jul_rows.proofs.VisitLaws.{same_then, pushed_append}
+use Rattle.jul_edge.proofs.PullingLaws.{pull_more}
 use Rattle.jul_edge.proofs.pulling.pull_row.Goals as goal
 
 pub loop-k-preserved : goal.loop-k-preserved

@@ -2,7 +2,7 @@ use Rattle.std.proofs.Common.{map, []}
 use Rattle.std.specs.Prelude.{slice_index}
 use Rattle.std.specs.List.{filter, range_with_len, slice_index_or}
 use Rattle.jul_base.specs.Sets.{has}
-use Rattle.jul_edge.specs.Visits.{IsSame, Step, step, HasPushed}
+use Rattle.jul_rows.specs.Visits.{IsSame, Step, step, HasPushed}
 use Rattle.jul_edge.proofs.pulling.pull_row.Given as goal
 
 abbrev pub invariant-loop-k : goal.invariant-loop-k

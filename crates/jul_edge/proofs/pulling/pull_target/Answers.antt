@@ -1,6 +1,6 @@
 use Rattle.std.proofs.Common.{◌∙◌, sym}
-use Rattle.jul_edge.specs.Visits.{pull_steps}
-use Rattle.jul_edge.proofs.VisitLaws.{pushed_unchosen}
+use Rattle.jul_edge.specs.Pulls.{pull_steps}
+use Rattle.jul_rows.proofs.VisitLaws.{pushed_unchosen}
 use Rattle.jul_edge.proofs.pulling.pull_target.Goals as goal
 
 pub returns-then-not-wants-clause-pulled : goal.returns-then-not-wants-clause-pulled

@@ -1,6 +1,7 @@
 use Rattle.std.proofs.Common.{arith}
-use Rattle.jul_edge.specs.Visits.{wanted_steps}
-use Rattle.jul_edge.proofs.VisitLaws.{range_more, same_then, pushed_append}
+use Rattle.jul_edge.specs.Pulls.{wanted_steps}
+use Rattle.jul_rows.proofs.VisitLaws.{same_then, pushed_append}
+use Rattle.jul_edge.proofs.PullingLaws.{range_more}
 use Rattle.jul_edge.proofs.pulling.pull_targets.Goals as goal
 
 pub pull_target-requires-clause-can : goal.pull_target-requires-clause-can

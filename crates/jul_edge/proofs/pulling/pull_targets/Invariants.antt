@@ -1,6 +1,7 @@
 use Rattle.std.proofs.Common.{◌-◌}
 use Rattle.std.specs.List.{flat_map, range_with_len}
-use Rattle.jul_edge.specs.Visits.{IsSame, Step, wanted_steps, HasPushed}
+use Rattle.jul_rows.specs.Visits.{IsSame, Step, HasPushed}
+use Rattle.jul_edge.specs.Pulls.{wanted_steps}
 use Rattle.jul_edge.proofs.pulling.pull_targets.Given as goal
 
 abbrev pub invariant-loop-v : goal.invariant-loop-v

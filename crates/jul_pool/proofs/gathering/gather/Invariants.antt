@@ -1,5 +1,5 @@
 use Rattle.std.proofs.Common.{◌≡◌, ◌<◌, ◌≤◌, ℕ, map, true, All, IfOk, vec_len}
-use Rattle.jul_pool.specs.Times.{times}
+use Rattle.jul_base.specs.Times.{times}
 use Rattle.jul_pool.specs.Runs.{Did}
 use Rattle.jul_pool.specs.Workers.{IsWorked}
 use Rattle.jul_pool.proofs.gathering.gather.Given as goal

@@ -4,7 +4,7 @@ use Rattle.jul_pool.specs.Added.{HasAdded}
 use Rattle.jul_words.specs.Seats.{Seat}
 use Rattle.jul_edge.specs.declared.functions.Direction.TheVariants.{Push}
 use Rattle.jul_edge.specs.Edges.{application}
-use Rattle.jul_edge.specs.Visits.{step}
+use Rattle.jul_rows.specs.Visits.{step}
 use Rattle.jul_edge.specs.Covers.{app_of}
 use Rattle.jul_edge.specs.Pushes.{stamp_of}
 use Rattle.jul_edge.proofs.PushLaws.{stamped_gives}

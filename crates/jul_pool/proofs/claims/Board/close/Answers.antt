@@ -1,6 +1,6 @@
 use Rattle.std.proofs.Common.{◌∙◌, ap, subst, get_or, List, ℕ}
 use Rattle.jul_pool.proofs.ClaimLaws.{all_claimed, at_get}
-use Rattle.jul_pool.specs.Times.{EachOnceBelow}
+use Rattle.jul_base.specs.Times.{EachOnceBelow}
 use Rattle.jul_pool.proofs.claims.Board.close.Goals as goal
 
 pub returns : goal.returns

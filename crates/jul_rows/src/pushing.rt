@@ -2,10 +2,10 @@
 ghost use Rattle.std.specs.Prelude.{◌≡◌, ℕ, ◌<◌, [], ◌∷◌, true, OnOk, All, if◌then◌else◌};
 ghost use Rattle.std.specs.List.{flat_map};
 ghost use Rattle.jul_base.specs.Graph.{vertices, IsLawful};
-ghost use Rattle.jul_edge.specs.Visits.{Step, step, push_steps, IsSame, IsPushed, HasPushed};
+ghost use Rattle.jul_rows.specs.Visits.{Step, step, push_steps, IsSame, IsPushed, HasPushed};
 
+use crate::out_rows::Rows;
 use crate::visits::Visit;
-use jul_rows::Rows;
 use std::alloc::AllocError;
 
 /// Visits the place from `u` to `v` if it is wanted, and notes `v` where the answer is true.
@@ -36,8 +36,9 @@ fn push_place<V: Visit>(
     Ok(())
 }
 
-/// Visits each wanted place of `u` in order, and notes the targets where the answer is true.
-pub(crate) fn push_row<V: Visit>(
+/// Visits each wanted place of `u` in order, and notes the targets where the answer is true, behind what was noted
+/// before. Linear in the degree of `u`.
+pub fn push_row<V: Visit>(
     rows: &Rows,
     visit: &V,
     u: u32,
@@ -63,8 +64,9 @@ pub(crate) fn push_row<V: Visit>(
     Ok(())
 }
 
-/// Visits each wanted place of each member in order, and notes the targets where the answer is true.
-pub(crate) fn push_members<V: Visit>(
+/// Visits each wanted place of each member in order, and notes the targets where the answer is true, behind what was
+/// noted before. A target is noted as often as the answer is true. Linear in the members and their places.
+pub fn push_members<V: Visit>(
     rows: &Rows,
     visit: &V,
     members: &[u32],

@@ -1,10 +1,14 @@
 //! What is done at one place. Nothing here knows of threads, so that loops may stand over it.
 ghost use Rattle.std.specs.Prelude.{◌≡◌, ℕ, Bool, List};
 ghost use Rattle.jul_base.specs.Logs.{Home};
-ghost use Rattle.jul_edge.specs.Visits.{Step, Visited, IsSame, step};
+ghost use Rattle.jul_rows.specs.Visits.{Step, Visited, IsSame, step};
 
-/// A function on places, with the token through which it acts.
-pub(crate) trait Visit {
+/// A function on places, which acts through a state that the loop lends it.
+///
+/// The state is the caller's: it may be the token of a thread, whose home, and whether it is a root, no visit changes.
+/// The trait asks for no thread, so that a loop may stand over a bound of it, whatever its implementations share.
+pub trait Visit {
+    /// Through this a visit acts.
     type State;
 
     // Whether `wants` may be asked about a vertex.
@@ -16,12 +20,14 @@ pub(crate) trait Visit {
     // What a visit does.
     ghost visits: { Self → Visited → Self.State → Self.State → Type 0 };
 
+    // What no visit changes of the state: its home, whether it is a root, and how many are out.
     ghost home: { Self.State → List Home };
 
     ghost is_root: { Self.State → Bool };
 
     ghost out: { Self.State → ℕ };
 
+    /// Whether places that lead to `v` are to be visited.
     fn wants(&self, v: u32) -> bool
         requires { can_want self.now v }
 

@@ -1,7 +1,7 @@
 use Rattle.std.proofs.Common.{get_or, refl, arith}
-use Rattle.jul_edge.specs.Visits.{push_steps}
-use Rattle.jul_edge.proofs.VisitLaws.{same_then, flat_more, pushed_append}
-use Rattle.jul_edge.proofs.pushing.push_members.Goals as goal
+use Rattle.jul_rows.specs.Visits.{push_steps}
+use Rattle.jul_rows.proofs.VisitLaws.{same_then, flat_more, pushed_append}
+use Rattle.jul_rows.proofs.pushing.push_members.Goals as goal
 
 pub loop-u-preserved : goal.loop-u-preserved
 loop-u-preserved g c =

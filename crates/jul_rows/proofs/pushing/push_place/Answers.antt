@@ -1,8 +1,8 @@
 use Rattle.std.proofs.Common.{◌∙◌, sym, ap, ◌++◌, ◌∷◌, [], if◌then◌else◌}
 use Rattle.std.proofs.lemmas.List.{append-nil}
-use Rattle.jul_edge.specs.Visits.{step}
-use Rattle.jul_edge.proofs.VisitLaws.{pushed_chosen}
-use Rattle.jul_edge.proofs.pushing.push_place.Goals as goal
+use Rattle.jul_rows.specs.Visits.{step}
+use Rattle.jul_rows.proofs.VisitLaws.{pushed_chosen}
+use Rattle.jul_rows.proofs.pushing.push_place.Goals as goal
 
 pub returns-in_ok-push-clause-pushed : goal.returns-in_ok-push-clause-pushed
 returns-in_ok-push-clause-pushed g c =

@@ -1,7 +1,7 @@
 use Rattle.std.proofs.Common.{take}
 use Rattle.std.specs.List.{flat_map}
-use Rattle.jul_edge.specs.Visits.{IsSame, Step, push_steps, HasPushed}
-use Rattle.jul_edge.proofs.pushing.push_members.Given as goal
+use Rattle.jul_rows.specs.Visits.{IsSame, Step, push_steps, HasPushed}
+use Rattle.jul_rows.proofs.pushing.push_members.Given as goal
 
 abbrev pub invariant-loop-u : goal.invariant-loop-u
 invariant-loop-u g l = record {

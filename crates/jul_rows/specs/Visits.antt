@@ -1,11 +1,9 @@
 -- Places that loops visit one after another, whatever is done at each.
-use Rattle.std.specs.Prelude.{ℕ, ◌-◌, ◌<◌, List, [], ◌∷◌, ◌++◌, ◌≡◌, Bool, true, map, length, slice_index, Contains, if◌then◌else◌}
-use Rattle.std.specs.List.{filter, range_with_len, slice_index_or}
+use Rattle.std.specs.Prelude.{ℕ, ◌-◌, List, [], ◌∷◌, ◌++◌, ◌≡◌, Bool, true, map, if◌then◌else◌}
+use Rattle.std.specs.List.{filter, range_with_len}
 use Rattle.jul_base.specs.declared.graphs.RawGraph.{RawGraph}
 use Rattle.jul_base.specs.Graph.{target, row_start, row_end, IsPlaceOf}
 use Rattle.jul_base.specs.Logs.{Home}
-use Rattle.jul_base.specs.InRows.{InEdges}
-use Rattle.jul_base.specs.Sets.{has}
 
 -- a place with its source and its target
 pub record Step : Type 0 where
@@ -23,15 +21,6 @@ pub record IsPushed (g : RawGraph) (wanted : ℕ → Bool) (u : ℕ) (s : Step) 
   pub target_is : s.target ≡ target g s.place
   pub target_wanted : wanted s.target ≡ true
 
--- it is a place that leads from a member to v
-pub record IsPulled (edges : InEdges) (members : List ℕ) (v : ℕ) (s : Step) : Type 0 where
-  pub target_is : s.target ≡ v
-  pub index : ℕ
-  pub in_row : index < length (slice_index_or edges.places v [])
-  pub place_is : s.place ≡ slice_index (slice_index_or edges.places v []) index
-  pub source_is : s.source ≡ slice_index (slice_index_or edges.sources v []) index
-  pub member : Contains members s.source
-
 -- a place that was visited, and whether its target is to be noted
 pub record Visited : Type 0 where
   pub step : Step
@@ -45,17 +34,6 @@ noted_of (x ∷ xs) = if x.noted then x.step.target ∷ noted_of xs else noted_o
 -- the wanted places of u, in order
 abbrev pub push_steps : RawGraph → (ℕ → Bool) → ℕ → List Step
 push_steps g wanted u = filter (λ s. wanted s.target) (map (λ p. step u p (target g p)) (range_with_len (row_start g u) (row_end g u - row_start g u)))
-
--- the places that lead from members to v, in order
-abbrev pub pull_steps : InEdges → List ℕ → ℕ → List Step
-pull_steps edges members v =
-    filter (λ s. has members s.source)
-    (map (λ k. step (slice_index (slice_index_or edges.sources v []) k) (slice_index (slice_index_or edges.places v []) k) v)
-    (range_with_len 0 (length (slice_index_or edges.places v []))))
-
--- those places where v is wanted
-abbrev pub wanted_steps : InEdges → List ℕ → (ℕ → Bool) → ℕ → List Step
-wanted_steps edges members wanted v = if wanted v then pull_steps edges members v else []
 
 -- what no visit changes
 pub record IsSame {T : Type 0} (home : T → List Home) (is_root : T → Bool) (out : T → ℕ) (old new : T) : Type 0 where

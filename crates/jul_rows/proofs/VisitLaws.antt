@@ -1,24 +1,21 @@
 -- How places that were visited are put one behind another.
-use Rattle.std.proofs.Common.{zero, suc, ◌≡◌, ℕ, ◌+◌, ◌-◌, ◌<◌, ◌≤◌, List, [], ◌∷◌, ◌++◌, length, map, take, get_or, refl, ap, sym, ◌∙◌, subst, arith, Bool, true, false, if◌then◌else◌}
-use Rattle.std.specs.Prelude.{◌↔◌, IsTrue, Contains}
+use Rattle.std.proofs.Common.{zero, suc, ◌≡◌, ℕ, ◌+◌, ◌-◌, ◌<◌, List, [], ◌∷◌, ◌++◌, length, map, take, get_or, refl, ap, sym, ◌∙◌, subst, arith, Bool, true, false, if◌then◌else◌}
 use Rattle.std.proofs.Common.{inl, inr}
 use Rattle.std.proofs.lemmas.Bool.{cases_Bool}
-use Rattle.jul_base.proofs.SetLaws.{has-from_Contains, Contains-from_has}
-use Rattle.std.proofs.lemmas.Grind.{flat_map-append}
-use Rattle.std.proofs.lemmas.List.{map-id, map-append, append_assoc, append-nil}
-use Rattle.std.specs.Prelude.{slice_index}
+use Rattle.std.proofs.lemmas.List.{map-append, append_assoc, append-nil}
 use Rattle.std.specs.List.{filter, flat_map, range_with_len}
-use Rattle.std.proofs.lemmas.List.FromFn.{map-range_with_len_more, filter_of_map_range_with_len_more}
+use Rattle.std.proofs.lemmas.List.FromFn.{filter_of_map_range_with_len_more}
 use Rattle.jul_base.specs.declared.graphs.RawGraph.{RawGraph}
 use Rattle.jul_base.specs.Graph.{row_start, row_end, target}
 use Rattle.jul_base.specs.Logs.{Home}
-use Rattle.jul_base.specs.Sets.{has}
-use Rattle.jul_edge.specs.Visits.{IsSame, push_steps, Step, step, Visited, noted_of, VisitedInOrder, HasVisited, HasPushed}
-use Rattle.jul_subset.proofs.ApplicationLaws.{if_append}
+use Rattle.jul_rows.specs.Visits.{IsSame, push_steps, Step, step, Visited, noted_of, VisitedInOrder, HasVisited, HasPushed}
 
 pub noted_of-append : (xs ys : List Visited) → noted_of (xs ++ ys) ≡ noted_of xs ++ noted_of ys
 noted_of-append [] ys = refl
-noted_of-append (x ∷ xs) ys = if_append x.noted x.step.target (noted_of xs) (noted_of ys) (noted_of (xs ++ ys)) (noted_of-append xs ys)
+noted_of-append (x ∷ xs) ys = elim (cases_Bool x.noted) [
+  | inl is ↦ rw is (ap (λ l. x.step.target ∷ l) (noted_of-append xs ys))
+  | inr not ↦ rw not (noted_of-append xs ys)
+]
 
 module _ {T : Type 0} (home : T → List Home) (is_root : T → Bool) (out : T → ℕ) where
   pub same_then : (old mid new : T) → IsSame home is_root out old mid → IsSame home is_root out mid new → IsSame home is_root out old new
@@ -36,45 +33,11 @@ push_more g wanted u k p v at to =
     ∙ ap (λ q. before ++ (if wanted (target g j) then step u q (target g j) ∷ [] else [])) (sym at)
     ∙ ap (λ t. before ++ (if wanted t then step u p t ∷ [] else [])) (sym to)
 
--- the places that lead from members to v, with one more
-pub pull_more : (us ps members : List ℕ) (v k u p : ℕ) → u ≡ slice_index us k → p ≡ slice_index ps k →
-    filter (λ (s : Step). has members s.source) (map (λ i. step (slice_index us i) (slice_index ps i) v) (range_with_len 0 (k + 1)))
-    ≡ filter (λ (s : Step). has members s.source) (map (λ i. step (slice_index us i) (slice_index ps i) v) (range_with_len 0 k)) ++ (if has members u then step u p v ∷ [] else [])
-pull_more us ps members v k u p from at =
-    let f = λ (i : ℕ). step (slice_index us i) (slice_index ps i) v in
-    let before = filter (λ (s : Step). has members s.source) (map f (range_with_len 0 k)) in
-    filter_of_map_range_with_len_more (λ (s : Step). has members s.source) f 0 k k (omega arith)
-    ∙ ap (λ q. before ++ (if has members (slice_index us k) then step (slice_index us k) q v ∷ [] else [])) (sym at)
-    ∙ ap (λ t. before ++ (if has members t then step t p v ∷ [] else [])) (sym from)
-
 -- all wanted places of a row
 pub push_whole : (g : RawGraph) (wanted : ℕ → Bool) (u n : ℕ) → row_start g u + n ≡ row_end g u → filter (λ (s : Step). wanted s.target) (map (λ q. step u q (target g q)) (range_with_len (row_start g u) n)) ≡ push_steps g wanted u
 push_whole g wanted u n e =
     let size : n ≡ row_end g u - row_start g u = omega arith in
     ap (λ k. filter (λ (s : Step). wanted s.target) (map (λ q. step u q (target g q)) (range_with_len (row_start g u) k))) size
-
--- whether u is a member, as a test
-pub has_test : (members : List ℕ) (u : ℕ) (b : Bool) → IsTrue b ↔ Contains members u → has members u ≡ b
-has_test members u true is = has-from_Contains members u (is.0 refl)
-has_test members u false is =
-    elim (cases_Bool (has members u)) [
-      | inl found ↦ absurd (let t : false ≡ true = is.1 (Contains-from_has members u found) in cc)
-      | inr missing ↦ missing
-    ]
-
-range_grows : (first n : ℕ) → range_with_len first (n + 1) ≡ range_with_len first n ++ (first + n) ∷ []
-range_grows first n =
-    sym (map-id (range_with_len first (n + 1))) ∙ map-range_with_len_more (λ x. x) first n (first + n) refl ∙ ap (λ (l : List ℕ). l ++ (first + n) ∷ []) (map-id (range_with_len first n))
-
--- the places that lead to wanted vertices from a first one on, with one more vertex
-pub range_more : (f : ℕ → List Step) (first v : ℕ) → first ≤ v → flat_map f (range_with_len first (v + 1 - first)) ≡ flat_map f (range_with_len first (v - first)) ++ f v
-range_more f first v le =
-    let size : v + 1 - first ≡ (v - first) + 1 = omega arith in
-    let at : first + (v - first) ≡ v = omega arith in
-    ap (λ n. flat_map f (range_with_len first n)) size
-    ∙ ap (flat_map f) (range_grows first (v - first) ∙ ap (λ k. range_with_len first (v - first) ++ k ∷ []) at)
-    ∙ flat_map-append f (range_with_len first (v - first)) (v ∷ [])
-    ∙ ap (λ l. flat_map f (range_with_len first (v - first)) ++ l) (append-nil (f v))
 
 -- what is made of the first members, with one more
 pub flat_more : (f : ℕ → List Step) (us : List ℕ) (k u : ℕ) → k < length us → u ≡ get_or us k 0 → flat_map f (take (k + 1) us) ≡ flat_map f (take k us) ++ f u

@@ -1,7 +1,7 @@
 use Rattle.std.proofs.Common.{◌<◌, length, get_or, arith}
-use Rattle.jul_edge.proofs.VisitLaws.{same_then, push_more, push_whole, pushed_append, pushed_same}
+use Rattle.jul_rows.proofs.VisitLaws.{same_then, push_more, push_whole, pushed_append, pushed_same}
 use Rattle.jul_base.proofs.GraphLaws.{row_end-le}
-use Rattle.jul_edge.proofs.pushing.push_row.Goals as goal
+use Rattle.jul_rows.proofs.pushing.push_row.Goals as goal
 
 pub loop-v-preserved : goal.loop-v-preserved
 loop-v-preserved g c =

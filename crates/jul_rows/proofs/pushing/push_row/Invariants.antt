@@ -1,8 +1,8 @@
 use Rattle.std.proofs.Common.{◌≡◌, ◌+◌, map}
 use Rattle.std.specs.List.{filter, range_with_len}
 use Rattle.jul_base.specs.Graph.{target, row_start}
-use Rattle.jul_edge.specs.Visits.{IsSame, Step, step, HasPushed}
-use Rattle.jul_edge.proofs.pushing.push_row.Given as goal
+use Rattle.jul_rows.specs.Visits.{IsSame, Step, step, HasPushed}
+use Rattle.jul_rows.proofs.pushing.push_row.Given as goal
 
 abbrev pub invariant-loop-v : goal.invariant-loop-v
 invariant-loop-v g l = record {
