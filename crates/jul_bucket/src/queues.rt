@@ -1,0 +1,213 @@
+//! Ids in a queue by their ranks: a list of ranks, and copies of the ids in near lists and in levels.
+ghost use Rattle.std.specs.Prelude.{◌≡◌, ◌≢◌, ◌<◌, ◌≤◌, ◌+◌, ◌-◌, ℕ, [], IfOk, OnOk, OnErr, MatchOption, length, All};
+ghost use Rattle.jul_base.specs.declared.limits.TheConstants.{NONE, MAX_N};
+ghost use Rattle.jul_bucket.specs.declared.limits.TheConstants.{MAX_OPEN};
+ghost use Rattle.jul_bucket.specs.declared.orders.Order.TheVariants.{Increasing};
+ghost use Rattle.jul_bucket.specs.Orders.{turn};
+ghost use Rattle.jul_bucket.specs.Places.{AllNone, NoneBehind, set_places};
+ghost use Rattle.jul_bucket.specs.States.{IsFirstFront};
+ghost use Rattle.jul_bucket.specs.Ranks.{Ranked, IsTaken, start_at, turned_moves};
+ghost use Rattle.jul_bucket.specs.Copies.{copies_at, IsFirstOpen, HoldsOpen, IsFirstAt};
+ghost use Rattle.jul_bucket.specs.QueueViews.{ranked_of, IsQueue};
+
+use crate::copies::{clear_lists, find_level, find_open};
+use crate::gathering::{Taken, take_out, taken_of};
+use crate::levels::{first_bounds, next_bounds};
+use crate::limits::{BOUNDS, LEVELS};
+use crate::orders::Order;
+use crate::putting::{put_ids, put_moves, set_ranks, spread};
+use jul_base::NONE;
+use std::alloc::{AllocError, Global};
+
+/// A rank for each id, or `NONE`. The least rank comes first.
+///
+/// An id that has a rank has a copy: in the near list of its rank, where that is before the first bound, or in
+/// the level of its rank. Other copies are of no meaning and are dropped when they are met.
+#[derive(Drop)]
+pub(crate) struct RankQueue {
+    pub alloc: Global,
+    pub open_count: u32,
+    pub ranks: Vec<u64>,
+    pub front: u64,
+    pub start: u64,
+    /// No near list from here on has a copy that is owed.
+    pub end: usize,
+    pub bounds: [u64; BOUNDS],
+    pub near: Vec<Vec<u32>>,
+    pub levels: Vec<Vec<u32>>,
+}
+
+impl RankQueue {
+    /// The queue of these ranks. Front and start are the least rank.
+    pub fn make(alloc: Global, open_count: u32, ranks: Vec<u64>) -> Result<RankQueue, AllocError>
+        requires open_some { 0 < open_count }
+        requires open_few { open_count ≤ MAX_OPEN }
+        requires few { length ranks.items ≤ MAX_N }
+
+        ensures first { IfOk result (λ queue. IsFirstFront Increasing ranks.items queue.front) }
+        ensures is { IfOk result (λ queue. ranked_of queue
+            ≡ record { open_count = open_count; ranks = ranks.items; front = queue.front; start = queue.front }) }
+        ensures queue { IfOk result IsQueue }
+    {
+        let front = first_front(ranks.as_slice());
+        let bounds = first_bounds(front, open_count);
+        let mut near = empty_lists(alloc, open_count as usize)?;
+        let mut levels = empty_lists(alloc, LEVELS)?;
+        let end = put_ids(ranks.as_slice(), &mut near, &mut levels, &bounds, front)?;
+        Ok(RankQueue {
+            alloc,
+            open_count,
+            ranks,
+            front,
+            start: front,
+            end,
+            bounds,
+            near,
+            levels,
+        })
+    }
+
+    /// Sets the ranks of the ids that are moved. All memory is taken before the first is set.
+    pub fn set(&mut self, order: Order, moves: &[(u32, u64)]) -> Result<(), AllocError>
+        requires queue { IsQueue self.old }
+        requires ids { All (λ m. m.0 < length self.old.ranks.items) moves.now }
+        requires late { All (λ m. m.1 ≢ NONE → self.old.front ≤ turn order m.1) moves.now }
+
+        ensures ok { OnOk result
+            ((ranked_of self.new ≡ record (ranked_of self.old) { ranks = set_places self.old.ranks.items (turned_moves order moves.now) })
+            × All (λ m. m.1 ≤ NONE) moves.now) }
+        ensures err { OnErr result (ranked_of self.new ≡ ranked_of self.old) }
+        ensures queue { IsQueue self.new }
+    {
+        let end = put_moves(
+            order,
+            moves,
+            &mut self.near,
+            &mut self.levels,
+            &self.bounds,
+            self.start,
+            self.end,
+        )?;
+        self.end = end;
+        set_ranks(order, moves, self.ranks.as_mut_slice());
+        Ok(())
+    }
+
+    /// Takes out the ids of the least rank. All memory is taken before a rank changes.
+    pub fn take(&mut self) -> Result<Option<Taken>, AllocError>
+        requires { IsQueue self.old }
+
+        ensures taken { IfOk result (λ taken. MatchOption taken
+            (AllNone self.old.ranks.items × (ranked_of self.new ≡ ranked_of self.old))
+            (λ t. IsTaken (ranked_of self.old) t (ranked_of self.new))) }
+        ensures err { OnErr result (ranked_of self.new ≡ ranked_of self.old) }
+        ensures queue { IsQueue self.new }
+    {
+        let from = (self.front - self.start) as usize;
+        let ranks = self.ranks.as_slice();
+        if let Some(i) = find_open(ranks, &self.near, self.start, from, self.end) {
+            return Ok(Some(self.take_near(i)?));
+        }
+        match find_level(ranks, &self.levels, &self.bounds) {
+            None => Ok(None),
+            Some((level, rank)) => Ok(Some(self.take_far(level, rank)?)),
+        }
+    }
+
+    /// Takes out the ids of near list `i`, the first that holds its rank.
+    fn take_near(&mut self, i: usize) -> Result<Taken, AllocError>
+        requires queue { IsQueue self.old }
+        requires found { IsFirstOpen self.old.ranks.items self.old.near.items self.old.start
+            (self.old.front - self.old.start) self.old.end i }
+
+        ensures taken { IfOk result (λ t. IsTaken (ranked_of self.old) t (ranked_of self.new)) }
+        ensures err { OnErr result (ranked_of self.new ≡ ranked_of self.old) }
+        ensures queue { IsQueue self.new }
+    {
+        let from = (self.front - self.start) as usize;
+        let rank = self.start + i as u64;
+        let copies = self.near[i].as_slice();
+        let taken = taken_of(self.alloc, self.ranks.as_slice(), copies, rank)?;
+        take_out(self.ranks.as_mut_slice(), taken.ids.as_slice(), rank);
+        clear_lists(&mut self.near, from, i + 1);
+        self.front = rank;
+        Ok(taken)
+    }
+
+    /// Takes out the ids of a rank in a level, where no near list and no level before holds a rank that it is for.
+    /// The start is set, and the level is spread.
+    fn take_far(&mut self, level: usize, rank: u64) -> Result<Taken, AllocError>
+        requires queue { IsQueue self.old }
+        requires none { (k : ℕ) → self.old.front - self.old.start ≤ k → k < self.old.end
+            → HoldsOpen self.old.ranks.items self.old.near.items self.old.start k → ⊥ }
+        requires found { IsFirstAt self.old.ranks.items self.old.levels.items self.old.bounds level rank }
+
+        ensures taken { IfOk result (λ t. IsTaken (ranked_of self.old) t (ranked_of self.new)) }
+        ensures err { OnErr result (ranked_of self.new ≡ ranked_of self.old) }
+        ensures queue { IsQueue self.new }
+    {
+        let from = (self.front - self.start) as usize;
+        let copies = self.levels[level].as_slice();
+        let taken = taken_of(self.alloc, self.ranks.as_slice(), copies, rank)?;
+        let start = next_start(self.open_count, self.start, rank);
+        let bounds = next_bounds(&self.bounds, level, start, self.open_count);
+        clear_lists(&mut self.near, from, self.end);
+        clear_lists(&mut self.levels, 0, level);
+        let end = spread(
+            self.alloc,
+            self.ranks.as_slice(),
+            level,
+            rank,
+            &mut self.near,
+            &mut self.levels,
+            &bounds,
+            start,
+        )?;
+        take_out(self.ranks.as_mut_slice(), taken.ids.as_slice(), rank);
+        self.start = start;
+        self.end = end;
+        self.bounds = bounds;
+        self.front = rank;
+        Ok(taken)
+    }
+}
+
+/// Where the open range begins once this rank is drawn.
+fn next_start(open_count: u32, start: u64, rank: u64) -> u64
+    requires { start ≤ rank }
+    ensures { result ≡ start_at open_count start rank }
+{
+    if rank - start < u64::from(open_count) {
+        start
+    } else {
+        rank
+    }
+}
+
+/// The least of these ranks, or 0 where there is none.
+fn first_front(ranks: &[u64]) -> u64
+    ensures first { IsFirstFront Increasing ranks.now result }
+    ensures behind { NoneBehind Increasing ranks.now result }
+    ensures is_rank { result < NONE }
+    ensures fits { All (λ rank. rank ≤ NONE) ranks.now }
+{
+    let mut least = NONE;
+    for rank in ranks {
+        if *rank < least {
+            least = *rank;
+        }
+    }
+    if least == NONE { 0 } else { least }
+}
+
+/// So many lists without a copy.
+fn empty_lists(alloc: Global, count: usize) -> Result<Vec<Vec<u32>>, AllocError>
+    ensures len { IfOk result (λ lists. length lists.items ≡ count) }
+    ensures none { IfOk result (λ lists. (k : ℕ) → copies_at lists.items k ≡ []) }
+{
+    let mut lists = Vec::with_capacity(alloc, count)?;
+    while lists.len() < count {
+        lists.push(Vec::new(alloc))?;
+    }
+    Ok(lists)
+}
