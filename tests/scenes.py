@@ -181,11 +181,10 @@ def ring_of_zeros(rng):
     return scene(rng, rows, "Distances", lines, source)
 
 
-def replaced(rng, tokens, bounds):
-    """The tokens with a number just at or just above its bound; bounds are pairs of an index and a bound."""
+def put_at_bound(rng, tokens, bounds):
+    """Puts one of the tokens just at its bound or above it; bounds are pairs of an index and a bound."""
     at, bound = rng.choice(bounds)
     tokens[at] = bound + rng.choice([0, 1, 1, CUT, 2**64])
-    return tokens
 
 
 def numbers_at_bounds(rng):
@@ -195,10 +194,10 @@ def numbers_at_bounds(rng):
     source = rng.randrange(0, n)
     graph, witness = texts.graph_tokens(rows, True), texts.witness_tokens("Distances", witnesses.tree_of(rows, source))
     if rng.random() < 0.7:
-        replaced(rng, graph, [(1, oracle.MAX_N), (2, oracle.MAX_M), (rng.randrange(3, 3 + n), sum(map(len, rows))), (3 + n, n - 1),
-                              (len(graph) - 1, oracle.MAX_W)])
+        offset, places = rng.randrange(3, 3 + n), sum(map(len, rows))
+        put_at_bound(rng, graph, [(1, oracle.MAX_N), (2, oracle.MAX_M), (offset, places), (3 + n, n - 1), (len(graph) - 1, oracle.MAX_W)])
     else:
-        replaced(rng, witness, [(1, oracle.MAX_N), (2 + 3 * source, GREATEST), (len(witness) - 1, GREATEST)])
+        put_at_bound(rng, witness, [(1, oracle.MAX_N), (2 + 3 * source, GREATEST), (len(witness) - 1, GREATEST)])
     return texts.spread(rng, graph), texts.spread(rng, witness), source
 
 
@@ -218,7 +217,7 @@ def long_answer(rng):
 
 
 # what may stand in place of a number
-NUMBERS = ["-", "-", "-", "-", "-", "-", "-0", "-0", "-00", "-7", "--7", "-7-", "+0", "00", "1.0", "x", "1x", "0x0", "\x0b0", "\x000", "\xff", "\xb9"]
+NUMBERS = ["-"] * 6 + ["-0"] * 2 + ["-00", "-7", "--7", "-7-", "+0", "00", "1.0", "x", "1x", "0x0", "\x0b0", "\x000", "\xff", "\xb9"]
 
 
 def odd_token(rng):
