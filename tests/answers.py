@@ -1,4 +1,4 @@
-"""Small files and words whose answers were worked out by hand."""
+"""Small files and words whose answers were worked out by hand, for the program and for the oracle."""
 import oracle
 import program
 
@@ -127,35 +127,37 @@ UNREADABLE = [
 ]
 
 
+def compare(tally, folder, words, files, wanted):
+    """Compares what the program answers, and what the oracle does, with what was worked out by hand."""
+    for name in files.keys() - {b"-"}:
+        program.write(folder, name.decode(), files[name])
+    what = f"words {words}, files {files}"
+    tally.compare(what, program.run(words, files.get(b"-", b""), folder), wanted)
+    tally.compare(f"the oracle on {what}", oracle.answer(words, files), wanted)
+
+
 def test_graphs(tally, folder):
     for source, text, *wanted in RUNS:
-        program.write(folder, "g", text)
-        for name, stdin in ((b"g", b""), (b"-", text)):
-            what = f"source {source}, file {name} of {text!r}"
-            tally.compare(what, program.run(wbfs_words(source, name), stdin, folder), tuple(wanted))
+        for name in (b"g", b"-"):
+            compare(tally, folder, wbfs_words(source, name), {name: text}, tuple(wanted))
 
 
 def test_witnesses(tally, folder):
     for source, graph, witness, *wanted in CHECKS:
-        program.write(folder, "g", graph)
-        program.write(folder, "w", witness)
-        for names, stdin in (((b"g", b"w"), b""), ((b"-", b"w"), graph), ((b"g", b"-"), witness)):
-            what = f"check {names} of graph {graph!r} and witness {witness!r}"
-            tally.compare(what, program.run(check_words(source, *names), stdin, folder), tuple(wanted))
+        for names in ((b"g", b"w"), (b"-", b"w"), (b"g", b"-")):
+            compare(tally, folder, check_words(source, *names), dict(zip(names, (graph, witness))), tuple(wanted))
 
 
 def test_names(tally, folder):
-    program.write(folder, "g", TRIANGLE)
-    same = program.run(check_words(None, b"g", b"g"), b"", folder)
-    tally.compare("one file as graph and witness", same, (3, b"", b"witness: Header at token 0, byte 0\n"))
+    compare(tally, folder, check_words(None, b"g", b"g"), {b"g": TRIANGLE}, (3, b"", b"witness: Header at token 0, byte 0\n"))
     for words, line in UNREADABLE:
-        tally.compare(f"words {words}", program.run(words, b"", folder), (5, b"", line))
+        compare(tally, folder, words, {b"g": TRIANGLE}, (5, b"", line))
 
 
 def test_words(tally, folder):
     for words in NOT_TAKEN:
         words = [word if isinstance(word, bytes) else word.encode() for word in words]
-        tally.compare(f"words {words}", program.run(words, TWO_WAYS, folder), (2, b"", oracle.USAGE))
+        compare(tally, folder, words, {b"-": TWO_WAYS}, (2, b"", oracle.USAGE))
 
 
 def test(tally, folder):

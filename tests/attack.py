@@ -18,7 +18,7 @@ GATE_TURNS, GATE_SEED = 3000, 20
 
 def number_word(rng, source):
     """The source, or a number that a program could take for it."""
-    return str(rng.choice([source] * 40 + ["000" + str(source), source + 2**32, source + 2**64, 2**32 - 1, 2**32, 2**64 - 1])).encode()
+    return str(rng.choice([source] * 80 + ["000" + str(source), source + 2**32, source + 2**64, 2**32 - 1, 2**32, 2**64 - 1])).encode()
 
 
 def odd_words(rng, words):
@@ -38,21 +38,26 @@ def odd_words(rng, words):
     return words
 
 
+ODD_NAMES = [b"no_such_file", b"", b"-g", b"\xff", b"g\xff"]
+
+
 def wbfs_words(rng, source):
-    name = rng.choice([b"g"] * 8 + [b"-"] * 6 + [b"no_such_file"])
+    name = rng.choice([b"g"] * 20 + [b"-"] * 15 + ODD_NAMES)
     return [b"wbfs", b"--bare", b"--source", number_word(rng, source), name]
 
 
 # graph and witness of a check
-CHECKED = [[b"g", b"w"]] * 20 + [[b"-", b"w"], [b"-", b"w"], [b"g", b"-"], [b"g", b"-"], [b"g", b"g"], [b"w", b"g"],
-                                 [b"-", b"-"], [b"no_such_file", b"w"], [b"g", b"no_such_file"]]
+CHECKED = [[b"g", b"w"]] * 50 + [[b"-", b"w"], [b"g", b"-"]] * 5 + [[b"g", b"g"], [b"w", b"g"], [b"-", b"-"]]
 
 
 def check_words(rng, source):
-    names = rng.choice(CHECKED)
+    names = list(rng.choice(CHECKED))
+    if rng.random() < 0.06:
+        names[rng.randrange(0, 2)] = rng.choice(ODD_NAMES)
     if source == 0 and rng.random() < 0.5:
         return [b"check", *names]
-    return [b"check", *names, b"--source", number_word(rng, source)]
+    option = [b"--source", number_word(rng, source)]
+    return [b"check", *names, *option] if rng.random() < 0.97 else [b"check", *option, *names]
 
 
 # how often a task is taken, and its words

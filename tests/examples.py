@@ -5,6 +5,8 @@ import subprocess
 
 import oracle
 import program
+import texts
+import witnesses
 
 FOLDER = os.path.join(program.TOP, "examples")
 NO_DATA = {"README.md", "edge_list.py"}
@@ -57,6 +59,22 @@ def test_commands(tally, folder, readme):
     tally.compare("files that no command uses", unused - NO_DATA, set())
 
 
+def test_results(tally):
+    """The two results are those that the tests find by searches of their own."""
+    cores = witnesses.cores_of(oracle.read_graph(read("karate_club.adj")))
+    tally.compare("the cores of the club", read("karate_club.cores").split(), texts.plain(texts.witness_tokens("Cores", cores)).split())
+    tree = witnesses.tree_of(oracle.read_graph(read("swiss_roads.wadj")), 0)
+    tally.compare("the distances from Bern", read("swiss_roads.distances").split(), texts.plain(texts.witness_tokens("Distances", tree)).split())
+
+
+def test_list(tally, folder, readme):
+    """The graph that a command made of the list is that of the roads, up to the order within rows; so are the names."""
+    made, kept = oracle.read_graph(read("roads.wadj", folder)), oracle.read_graph(read("swiss_roads.wadj"))
+    tally.compare("the graph of the list", [sorted(row) for row in made], [sorted(row) for row in kept])
+    names = ", ".join(read("roads.wadj.names", folder).decode().splitlines())
+    tally.compare("the towns of the table", re.search(r"in kilometers: (.*?) \|", readme).group(1), names)
+
+
 def test_starter(tally, folder):
     """bin/julienne from another folder, by way of a link, and with an answer that isn't 0."""
     starter, link = os.path.join(program.TOP, "bin", "julienne"), os.path.join(folder, "link")
@@ -74,4 +92,6 @@ def test(tally, folder):
     readme = read("README.md").decode()
     test_table(tally, readme)
     test_commands(tally, folder, readme)
+    test_results(tally)
+    test_list(tally, folder, readme)
     test_starter(tally, folder)

@@ -1,5 +1,6 @@
 """A symmetric graph of 100,000 vertices and 1,000,000 places: files that are read and written in many blocks."""
 import random
+import subprocess
 
 import oracle
 import program
@@ -8,6 +9,7 @@ import witnesses
 
 N, PAIRS = 100_000, 500_000
 SOURCE, TAMPERED = 4_321, 77_777
+MEMORIES = [10_000, 14_000, 18_000, 20_000, 22_000, 24_000, 26_000, 28_000, 32_000, 40_000, 200_000]     # KiB
 
 
 def make_rows(seed):
@@ -60,6 +62,23 @@ def test_witness(tally, folder, rows, word, lines, changes):
         tally.compare(f"a verdict on {word}, {name}", got[0], 0 if name == "right" else 1)
 
 
+def run_with_little_memory(kibibytes, words, folder):
+    command = ["sh", "-c", f'ulimit -v {kibibytes} && exec "$@"', "sh", program.PROGRAM, *words]
+    done = subprocess.run(command, stdin=subprocess.DEVNULL, capture_output=True, cwd=folder, timeout=program.LONGEST)
+    return done.returncode, done.stdout, done.stderr
+
+
+def test_memory(tally, folder):
+    """The right answer or none: with little memory none, with enough of it the right one. The witness is the one written last."""
+    none = 7, b"", b"out of memory\n"
+    for words in (["wbfs", "--bare", "--source", "0", "large"], ["check", "large", "right"]):
+        right = program.run(words, b"", folder)
+        answers = [run_with_little_memory(kibibytes, words, folder) for kibibytes in MEMORIES]
+        for kibibytes, answer in zip(MEMORIES, answers):
+            tally.compare(f"{words} with {kibibytes} KiB", answer, none if answer[0] == none[0] else right)
+        tally.compare(f"{words} with the least and the most memory", [answers[0][0], answers[-1][0]], [7, 0])
+
+
 def test(tally, folder):
     rows = make_rows(7)
     graph = texts.plain(texts.graph_tokens(rows, True))
@@ -69,3 +88,4 @@ def test(tally, folder):
     test_faults(tally, folder, graph)
     test_witness(tally, folder, rows, "Distances", tree, [(0, 1), (1, 1)])
     test_witness(tally, folder, rows, "Cores", witnesses.cores_of(rows), [(0, -1), (1, -41)])
+    test_memory(tally, folder)

@@ -268,11 +268,18 @@ def source_range(source, rows):
     return 4, b"", b"source %d is not below %d\n" % (source, len(rows))
 
 
-def check(rows, name, source, files):
-    if name not in files:
+def wbfs(rows, _, source, __):
+    if source >= len(rows):
+        return source_range(source, rows)
+    lines = [b"-" if d is None else b"%d" % d for d in distances(rows, source)]
+    return 0, b"".join(line + b"\n" for line in lines), b""
+
+
+def check(rows, names, source, files):
+    if names[1] not in files:
         return 5, b"", b"read fault: witness\n"
     try:
-        word, witness = read_witness(files[name])
+        word, witness = read_witness(files[names[1]])
     except Fault as fault:
         return 3, b"", b"witness: " + fault.place
     if len(witness) != len(rows):
@@ -281,6 +288,9 @@ def check(rows, name, source, files):
         return source_range(source, rows)
     code, line = verdict(rows, word, witness, source)
     return code, line, b""
+
+
+TASKS = {b"wbfs": wbfs, b"check": check}
 
 
 def answer(words, files):
@@ -295,9 +305,4 @@ def answer(words, files):
         rows = read_graph(files[names[0]])
     except Fault as fault:
         return 3, b"", b"graph: " + fault.place
-    if task == b"check":
-        return check(rows, names[1], source, files)
-    if source >= len(rows):
-        return source_range(source, rows)
-    lines = [b"-" if d is None else b"%d" % d for d in distances(rows, source)]
-    return 0, b"".join(line + b"\n" for line in lines), b""
+    return TASKS[task](rows, names, source, files)

@@ -8,6 +8,7 @@ import witnesses
 
 GREATEST = 2**64 - 2        # the greatest number of a witness
 CUT = 2**32                 # what a number loses that is kept in 32 bits
+READ_BLOCK, WRITE_BLOCK = 65536, 8192   # bytes that the program moves at a time
 
 
 def random_graph(rng, n, places, greatest):
@@ -70,7 +71,7 @@ def any_texts(rng):
     if rng.random() < 0.5:
         lines = tampered(rng, lines)
     if rng.random() < 0.15:
-        lines = rng.choice([lines[1:], lines[:-1], lines + lines[:1]])
+        lines, source = rng.choice([lines[1:], lines[:-1], lines + lines[:1]]), rng.choice([source, source, n])
     witness = texts.witness_tokens(word, no_dashes(lines) if word == "Cores" and rng.random() < 0.9 else lines)
     if rng.random() < 0.15:
         witness = texts.damaged(rng, witness)
@@ -98,30 +99,34 @@ def tampered_cores(rng):
 
 
 def tampered_tree(rng):
-    """The distances of a graph in which most vertices are reached, with entries changed."""
+    """The distances of a graph in which most vertices are reached, with entries changed or with another parent."""
     n = rng.randrange(2, 9)
     rows = random_graph(rng, n, rng.randrange(n, 4 * n), greatest_weight(rng))
     source = rng.randrange(0, n)
     lines = witnesses.tree_of(rows, source)
-    if rng.random() < 0.8:
+    if rng.random() < 0.6:
         lines = tampered(rng, lines)
-    if rng.random() < 0.1:
+    elif rng.random() < 0.3:
         lines[source][rng.choice([1, 2])] = rng.choice([1, source])
-        rng.choice(lines)[0] = None
+        for target, _ in rows[source][:1]:
+            lines[target][0] = None
+    elif rng.random() < 0.8:
+        line = rng.choice(lines)
+        line[2] = rng.choice([n, n + 1, (line[2] or 0) + CUT, *(u for u in range(n) if lines[u][1] == (line[1] or 0) - 1)])
     return scene(rng, rows, "Distances", lines, source)
 
 
 def tampered_cover(rng):
-    """A cover with sets that were not chosen, or with entries changed."""
+    """A cover with a set that was not chosen or is no vertex, or with entries changed."""
     n = rng.randrange(2, 9)
     rows = random_graph(rng, n, rng.randrange(n // 2, 3 * n), 1)
     lines = witnesses.cover_of(rng, rows)
     if rng.random() < 0.5:
         lines = tampered(rng, lines)
     else:
-        s = rng.randrange(0, n)
-        lines[s][0] = None
-        rng.choice(lines)[1] = s
+        line, s = rng.choice(lines), rng.randrange(0, n)
+        line[1] = rng.choice([s, s, s, n, (line[1] or 0) + CUT])
+        lines[s][0] = rng.choice([None, None, 0])
     return scene(rng, rows, "Cover", lines, rng.choice([0, 0, n, 2**32 - 1]))
 
 
@@ -153,11 +158,12 @@ def sums_at_the_end(rng):
     rows[parent].append((child, weight))
     if rng.random() < 0.6:
         rows[child].append((rng.randrange(0, n + 2), rng.choice([0, 1, 2, oracle.MAX_W])))
-    dist = 7 if rng.random() < 0.2 else 2**64 - 1 - rng.choice([0, 0, 1, 1, 2, 3, weight, rng.randrange(0, oracle.MAX_W)])
+    dist = 7 if rng.random() < 0.3 else 2**64 - 1 - rng.choice([0, 0, 1, 1, 2, 3, weight, rng.randrange(0, oracle.MAX_W)])
     hops = rng.choice([0, 1, 2**32 - 1, 2**64 - 2, 2**64 - 1])
     lines[parent] = [wrapped(dist), wrapped(hops), rng.choice([None, source, child, parent])]
     near = rng.choice([0, 0, 0, 1, -1])
-    lines[child] = [wrapped(dist + weight + near), wrapped(hops + 1), rng.choice([parent, parent, parent, parent + CUT])]
+    child_dist = rng.choice([wrapped(dist + weight + near), wrapped(dist + weight + near), GREATEST - rng.randrange(0, 3)])
+    lines[child] = [child_dist, wrapped(hops + 1), rng.choice([parent, parent, parent, parent + CUT])]
     return scene(rng, rows, "Distances", lines, source)
 
 
@@ -175,11 +181,10 @@ def ring_of_zeros(rng):
     return scene(rng, rows, "Distances", lines, source)
 
 
-def replaced(rng, tokens, bounds):
-    """The tokens with a number just at or just above its bound; bounds are pairs of an index and a bound."""
+def put_at_bound(rng, tokens, bounds):
+    """Puts one of the tokens just at its bound or above it; bounds are pairs of an index and a bound."""
     at, bound = rng.choice(bounds)
     tokens[at] = bound + rng.choice([0, 1, 1, CUT, 2**64])
-    return tokens
 
 
 def numbers_at_bounds(rng):
@@ -189,15 +194,30 @@ def numbers_at_bounds(rng):
     source = rng.randrange(0, n)
     graph, witness = texts.graph_tokens(rows, True), texts.witness_tokens("Distances", witnesses.tree_of(rows, source))
     if rng.random() < 0.7:
-        replaced(rng, graph, [(1, oracle.MAX_N), (2, oracle.MAX_M), (rng.randrange(3, 3 + n), sum(map(len, rows))), (3 + n, n - 1),
-                              (len(graph) - 1, oracle.MAX_W)])
+        offset, places = rng.randrange(3, 3 + n), sum(map(len, rows))
+        put_at_bound(rng, graph, [(1, oracle.MAX_N), (2, oracle.MAX_M), (offset, places), (3 + n, n - 1), (len(graph) - 1, oracle.MAX_W)])
     else:
-        replaced(rng, witness, [(1, oracle.MAX_N), (2 + 3 * source, GREATEST), (len(witness) - 1, GREATEST)])
+        put_at_bound(rng, witness, [(1, oracle.MAX_N), (2 + 3 * source, GREATEST), (len(witness) - 1, GREATEST)])
     return texts.spread(rng, graph), texts.spread(rng, witness), source
 
 
+def padded(rng):
+    """A graph behind so many white bytes that a block of reading ends within it."""
+    graph, witness, source = any_texts(rng)
+    return rng.choice(texts.WHITE)[:1] * (READ_BLOCK - rng.randrange(0, len(graph) + 2)) + graph, witness, source
+
+
+def long_answer(rng):
+    """So many vertices that a block of writing ends within the answer, or just behind it."""
+    n = WRITE_BLOCK // 2 + rng.randrange(-3, 4)
+    rows, source = [[] for _ in range(n)], rng.randrange(0, n)
+    for _ in range(rng.choice([0, 1, 2, 30])):
+        rows[rng.choice([source, rng.randrange(0, n)])].append((rng.randrange(0, n), rng.randrange(0, 10**rng.randrange(0, 9))))
+    return scene(rng, rows, "Distances", witnesses.tree_of(rows, source), source)
+
+
 # what may stand in place of a number
-NUMBERS = ["-", "-0", "-00", "-7", "--7", "-7-", "+0", "00", "1.0", "x", "1x", "0x0", "\x0b0", "\x000", "\xff", "\xb9"]
+NUMBERS = ["-"] * 6 + ["-0"] * 2 + ["-00", "-7", "--7", "-7-", "+0", "00", "1.0", "x", "1x", "0x0", "\x0b0", "\x000", "\xff", "\xb9"]
 
 
 def odd_token(rng):
@@ -217,13 +237,15 @@ def odd_token(rng):
 SCENES = [
     (8, any_texts),
     (3, tampered_cores),
-    (3, tampered_tree),
+    (4, tampered_tree),
     (2, tampered_cover),
     (1, columns_of_unreached),
-    (3, sums_at_the_end),
+    (4, sums_at_the_end),
     (1, ring_of_zeros),
-    (1, numbers_at_bounds),
-    (2, odd_token),
+    (2, numbers_at_bounds),
+    (3, odd_token),
+    (0.3, padded),
+    (0.3, long_answer),
 ]
 
 

@@ -88,6 +88,25 @@ def run_in_pieces(words, text, folder):
     return started.returncode, out, err
 
 
+def run_until_reader_ends(words, folder):
+    """The program's answer where the reader of a long text ends behind its first bytes."""
+    with subprocess.Popen([program.PROGRAM, *words.split()], cwd=folder, stdin=subprocess.DEVNULL, stdout=subprocess.PIPE,
+                          stderr=subprocess.PIPE) as started:
+        first = started.stdout.read(4)
+        started.stdout.close()
+        err = started.stderr.read()
+    return started.returncode, first, err
+
+
+def run_on_fifo(words, text, folder):
+    """The program's answer where the file is a pipe with a name, written by another process."""
+    os.mkfifo(os.path.join(folder, "fifo"))
+    with subprocess.Popen(["sh", "-c", "cat > fifo"], cwd=folder, stdin=subprocess.PIPE) as writer:
+        writer.stdin.write(text)
+        writer.stdin.close()
+        return program.run(words.split(), b"", folder)
+
+
 def test(tally, folder):
     program.write(folder, "g", GRAPH)
     program.write(folder, "w", WITNESS)
@@ -98,3 +117,7 @@ def test(tally, folder):
     for words, stream, *wanted in CLOSED_PIPES:
         tally.compare(f"{words}, nobody reads its {stream}", run_into_closed_pipe(words, stream, folder), tuple(wanted))
     tally.compare("input byte by byte", run_in_pieces(WBFS_INPUT, GRAPH, folder), (0, DISTANCES, b""))
+    tally.compare("a pipe with a name", run_on_fifo("wbfs --bare --source 0 fifo", GRAPH, folder), (0, DISTANCES, b""))
+    program.write(folder, "long", b"AdjacencyGraph 200000 0" + b" 0" * 200000)
+    ended = run_until_reader_ends("wbfs --bare --source 0 long", folder)
+    tally.compare("a reader that ends", ended, (6, b"0\n-\n", b"write fault\n"))
