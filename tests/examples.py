@@ -9,6 +9,7 @@ import texts
 import witnesses
 
 FOLDER = os.path.join(program.TOP, "examples")
+STARTER = os.path.join(program.TOP, "bin", "julienne")
 NO_DATA = {"README.md", "edge_list.py"}
 
 
@@ -33,6 +34,11 @@ def graphs_of_table(readme):
 def is_symmetric(rows):
     places = sorted((u, v) for u, row in enumerate(rows) for v, _ in row)
     return places == sorted((v, u) for u, v in places)
+
+
+def bring_up_to_date():
+    """Starts bin/julienne once: where a source is newer than the program, it says so and builds before it answers."""
+    subprocess.run([STARTER], stdin=subprocess.DEVNULL, capture_output=True)
 
 
 def run_in_shell(command, folder):
@@ -77,10 +83,10 @@ def test_list(tally, folder, readme):
 
 def test_starter(tally, folder):
     """bin/julienne from another folder, by way of a link, and with an answer that isn't 0."""
-    starter, link = os.path.join(program.TOP, "bin", "julienne"), os.path.join(folder, "link")
-    os.symlink(starter, link)
+    link = os.path.join(folder, "link")
+    os.symlink(STARTER, link)
     program.write(folder, "g", read("chain.adj"))
-    for name in (starter, link, os.path.relpath(starter, folder)):
+    for name in (STARTER, link, os.path.relpath(STARTER, os.path.realpath(folder))):
         for words, wanted in ((["0", "g"], (0, b"0\n1\n2\n3\n4\n5\n", b"")),
                               (["6", "-"], (4, b"", b"source 6 is not below 6\n"))):
             done = subprocess.run([name, "wbfs", "--bare", "--source", *words], input=read("chain.adj"), capture_output=True,
@@ -90,6 +96,7 @@ def test_starter(tally, folder):
 
 def test(tally, folder):
     readme = read("README.md").decode()
+    bring_up_to_date()
     test_table(tally, readme)
     test_commands(tally, folder, readme)
     test_results(tally)
