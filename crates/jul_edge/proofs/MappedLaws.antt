@@ -2,7 +2,7 @@
 use Rattle.std.proofs.Common.{◌≡◌, ℕ, ◌<◌, ◌≤◌, Bool, true, List, [], ◌∷◌, ◌++◌, map, cond, eqb, refl, sym, ap, ◌∙◌, subst, arith, inl, inr, suc, zero, length}
 use Rattle.std.specs.List.{Contains, All}
 use Rattle.std.proofs.lemmas.Bool.{cases_Bool, cases_lt, eqb-true}
-use Rattle.std.proofs.lemmas.List.Elements.{All-head, All-tail, All-contains, All-append, All-weaker}
+use Rattle.std.proofs.lemmas.List.Elements.{All-contains, All-append, All-weaker}
 use Rattle.jul_base.specs.declared.graphs.RawGraph.{RawGraph}
 use Rattle.jul_base.specs.Graph.{target, weight, IsPlaceOf, IsLawful}
 use Rattle.jul_base.specs.Logs.{Log, Entry, STAMP}
@@ -20,6 +20,7 @@ use Rattle.jul_subset.specs.Applications.{Done, answered_true}
 use Rattle.jul_edge.specs.declared.functions.Direction.{Direction}
 use Rattle.jul_edge.specs.Edges.{Application, IsWanted, AreWantedOnce, places_of}
 use Rattle.jul_edge.specs.EdgeMaps.{CanStamp, HasStamped}
+use Rattle.jul_subset.proofs.ApplicationLaws.{All-from_map}
 
 -- one application to a place, with its answer and what it added
 abbrev pub EdgeDone : Type 0
@@ -69,9 +70,7 @@ same_application a b h i j k l = parts a.by b.by a.source b.source a.place b.pla
   parts d d' u u' p p' v v' w w' h i j k l = cc
 
 All-apps : (P : Application → Type 0) (done : List EdgeDone) → All P (apps_of done) → (d : EdgeDone) → Contains done d → P d.to
-All-apps P [] h d (k, lt, is) = absurd (omega (arith, lt))
-All-apps P (x ∷ xs) h d (zero, lt, is) = subst (λ (e : EdgeDone). P e.to) is (All-head P x.to (apps_of xs) h)
-All-apps P (x ∷ xs) h d (suc k, lt, is) = All-apps P xs (All-tail P x.to (apps_of xs) h) d (k, omega arith, is)
+All-apps P done h d there = All-contains (λ (e : EdgeDone). P e.to) done d (All-from_map P (λ (e : EdgeDone). e.to) done h) there
 
 -- each wanted application was made
 pub applied_to : (by : Direction) (g : RawGraph) (members : List ℕ) (wanted : ℕ → Bool) (done : List EdgeDone) → IsLawful g →

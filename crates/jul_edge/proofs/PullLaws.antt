@@ -1,14 +1,14 @@
 -- A pull: the wanted places by their targets, its condition at each place, and what all chunks did together.
-use Rattle.std.proofs.Common.{zero, suc, ◌≡◌, ℕ, ◌+◌, ◌-◌, ◌*◌, ◌<◌, ◌≤◌, List, [], ◌∷◌, length, map, take, drop, refl, ap, sym, ◌∙◌, subst, arith, All, Bool, true, false, inl, inr, ⊎_elim, Vec, Global}
-use Rattle.std.specs.Prelude.{Contains, slice_index, ◌↔◌, min}
+use Rattle.std.proofs.Common.{zero, suc, ◌≡◌, ℕ, ◌+◌, ◌-◌, ◌*◌, ◌<◌, ◌≤◌, List, [], ◌∷◌, ◌++◌, length, map, take, drop, refl, ap, sym, ◌∙◌, subst, arith, All, Bool, true, false, inl, inr, ⊎_elim, Vec, Global}
+use Rattle.std.specs.Prelude.{Contains, slice_index, min}
 use Rattle.std.specs.List.{flat_map, range_with_len, slice_index_or}
 use Rattle.std.proofs.lemmas.Bool.{cases_Bool, cases_eq}
 use Rattle.std.proofs.lemmas.List.{map-append, get_or_default}
-use Rattle.std.proofs.lemmas.List.Elements.{All-take, All-drop, All-nil, All-head, All-tail, All-weaker, All-map, Contains-get_or}
+use Rattle.std.proofs.lemmas.List.Elements.{All-take, All-drop, All-nil, All-head, All-tail, All-map}
 use Rattle.jul_base.specs.declared.graphs.RawGraph.{RawGraph}
 use Rattle.jul_base.specs.Graph.{vertices, places, target, IsPlaceOf, IsLawful}
 use Rattle.jul_base.specs.InRows.{InEdges, IsFlip, in_places}
-use Rattle.jul_base.specs.Logs.{Log, Home}
+use Rattle.jul_base.specs.Logs.{Log, Home, followed_by}
 use Rattle.jul_base.specs.Numbers.{below}
 use Rattle.jul_base.specs.Sets.{has}
 use Rattle.jul_base.proofs.GraphLaws.{place_in_range}
@@ -21,20 +21,22 @@ use Rattle.jul_subset.proofs.IncreasingLaws.{apart}
 use Rattle.std.proofs.lemmas.List.FromFn.{length-range_with_len, get_or-range_with_len}
 use Rattle.jul_pool.specs.Runs.{EachRunOnce}
 use Rattle.jul_subset.specs.Subsets.{Subset}
-use Rattle.jul_subset.specs.Applications.{Done, answered_true}
-use Rattle.jul_subset.proofs.ApplicationLaws.{NotesChunk, all_gathered}
-use Rattle.jul_subset.proofs.PickingLaws.{same_holds}
+use Rattle.jul_subset.specs.Applications.{Done, NotesHits}
+use Rattle.jul_subset.specs.Picks.{picked}
+use Rattle.jul_subset.proofs.ApplicationLaws.{all_gathered}
+use Rattle.jul_subset.proofs.PickingLaws.{chunks_pick, IsStrictlyIncreasing-picked, All-picked}
 use Rattle.jul_edge.specs.declared.functions.Direction.TheVariants.{Pull}
 use Rattle.jul_edge.specs.Edges.{Application, IsWanted}
 use Rattle.jul_rows.specs.Visits.{Step, step}
 use Rattle.jul_edge.specs.Pulls.{IsPulled, pull_steps, wanted_steps}
 use Rattle.std.specs.List.Sorted.{IsStrictlyIncreasing}
 use Rattle.jul_subset.specs.Chunks.{chunk_of}
-use Rattle.jul_edge.specs.Covers.{app_of, Covers, WantedGives}
+use Rattle.jul_edge.specs.Covers.{app_of, Applies, Covers, WantedGives}
 use Rattle.jul_edge.specs.EdgeMaps.{IsMapped}
-use Rattle.jul_edge.proofs.ApplyingLaws.{answered_true-below, wanted_target}
+use Rattle.jul_edge.proofs.ApplyingLaws.{wanted_target}
 use Rattle.jul_edge.proofs.PushedLaws.{places_sum, times_increasing, cover_chunks}
-use Rattle.jul_edge.specs.Pulls.{MayPull, pulled_apps}
+use Rattle.jul_edge.specs.Pulls.{MayPull, HasPulled, PulledChunk, pulled_apps}
+use Rattle.jul_edge.proofs.PushLaws.{applied_run}
 use Rattle.jul_edge.proofs.CoverLaws.{chosen_all, chosen_none, chosen_once, covers_none, covers_append}
 
 module _ (g : RawGraph) (lawful : IsLawful g) (edges : InEdges) (flip : IsFlip g edges) (members : List ℕ) (wanted : ℕ → Bool) where
@@ -151,36 +153,59 @@ below_in n k d lt = let size : length (below n) ≡ n = length-range_with_len 0 
 pub chunk_in : (n size c : ℕ) → All (λ v. v < n) (chunk_of (below n) size c)
 chunk_in n size c = All-take (λ v. v < n) size (drop (c * size) (below n)) (All-drop (λ v. v < n) (c * size) (below n) (below_in n))
 
-module _ (gives : Application → Bool → Log → Type 0) (g : RawGraph) (lawful : IsLawful g) (edges : InEdges) (flip : IsFlip g edges) (members : List ℕ) (wanted : ℕ → Bool) (size chunks : ℕ) (old new : Log) (outs : List (Vec ℕ Global)) (order noted : List ℕ) (enough : vertices g ≤ chunks * size) where
+-- what the pull of a chunk gives
+pub pulled_chunk : {T : Type 0} (g : RawGraph) (edges : InEdges) (members : List ℕ) (wanted : ℕ → Bool) (gives : Application → Bool → Log → Type 0) (log : T → Log) (vs vs' : List ℕ) (old new : T) (before after : List ℕ) →
+    HasPulled (Applies Pull g gives log) (flat_map (wanted_steps edges members wanted) vs) vs old new before after → before ≡ [] → vs ≡ vs' → All (IsWanted Pull g members wanted) (pulled_apps g edges members wanted vs') →
+    (added : Log) × PulledChunk gives g edges members wanted vs' added after × (log new ≡ followed_by (log old) added)
+pulled_chunk g edges members wanted gives log vs vs' old new before after h none same each =
+    let r = applied_run Pull g members wanted gives log (flat_map (wanted_steps edges members wanted) vs) (pulled_apps g edges members wanted vs') old new h.visited h.has_visited (ap (pulled_apps g edges members wanted) same) each in
+    let is : after ≡ h.noted = h.after_is ∙ ap (λ l. l ++ h.noted) none in
+    let hits : NotesHits (WantedGives Pull g members wanted gives) (λ (a : Application). a.target) (pulled_apps g edges members wanted vs') r.added after = record {
+      done = r.done;
+      applied = r.applied;
+      noted_are = λ v. (
+        (λ c. subst (λ l. Contains l v) r.noted_are ((h.holds v).0 (subst (λ l. Contains l v) is c))),
+        (λ c. subst (λ l. Contains l v) (sym is) ((h.holds v).1 (subst (λ l. Contains l v) (sym r.noted_are) c))),
+      );
+    } in
+    (r.added, (hits, (h.picks.0, h.picks.1 ∙ ap length same, is ∙ h.picks.2 ∙ ap (picked h.picks.0) same)), r.log_is)
+
+module _ (gives : Application → Bool → Log → Type 0) (g : RawGraph) (lawful : IsLawful g) (edges : InEdges) (flip : IsFlip g edges) (members : List ℕ) (wanted : ℕ → Bool) (size chunks : ℕ) (old new : Log) (outs : List (Vec ℕ Global)) (order noted : List ℕ) where
   abbrev Gives : Application → Bool → Log → Type 0
   Gives = WantedGives Pull g members wanted gives
 
   abbrev Wanted : ℕ → List Application
   Wanted c = pulled_apps g edges members wanted (chunk_of (below (vertices g)) size c)
 
-  abbrev All-ran : Type 0
-  All-ran = EachRunOnce (NotesChunk Gives (λ (a : Application). a.target) Wanted) chunks old new outs order
+  abbrev Ran : ℕ → Vec ℕ Global → Log → Type 0
+  Ran c out added = PulledChunk gives g edges members wanted (chunk_of (below (vertices g)) size c) added out.items
 
-  module _ (ran : All-ran) (noted_is : noted ≡ flat_map (λ (o : Vec ℕ Global). o.items) outs) where
-    to_wanted : All (λ (d : Done Application). IsWanted Pull g members wanted d.to) (all_gathered Gives (λ (a : Application). a.target) Wanted chunks old new outs order ran).done
-    to_wanted k d lt = ((all_gathered Gives (λ (a : Application). a.target) Wanted chunks old new outs order ran).by.each k d lt).1
+  module _ (ran : EachRunOnce Ran chunks old new outs order) (noted_is : noted ≡ flat_map (λ (o : Vec ℕ Global). o.items) outs) where
+    -- the targets of all chunks are some of all vertices, in their order
+    noted_pick : (bs : List Bool) × (noted ≡ picked bs (below (vertices g)))
+    noted_pick =
+        let p = chunks_pick Ran (below (vertices g)) size chunks old new outs order (λ c o added r. r.1) ran in
+        (p.0, noted_is ∙ p.1)
 
-    noted_are : (v : ℕ) → Contains noted v ↔ Contains (answered_true (λ (a : Application). a.target) (all_gathered Gives (λ (a : Application). a.target) Wanted chunks old new outs order ran).done) v
-    noted_are v =
-        let same = same_holds _ _ (all_gathered Gives (λ (a : Application). a.target) Wanted chunks old new outs order ran).noted v in
-        let P : List ℕ → Type 0 = λ l. Contains l v in ((λ h. same.1 (subst P noted_is h)), (λ h. subst P (sym noted_is) (same.0 h)))
+    pub pull_increasing : IsStrictlyIncreasing noted
+    pull_increasing =
+        let p = noted_pick in
+        subst IsStrictlyIncreasing (sym p.1) (IsStrictlyIncreasing-picked p.0 (below (vertices g)) (IsStrictlyIncreasing-below (vertices g)))
 
-    pub pull_noted_in : All (λ v. v < vertices g) noted
-    pull_noted_in k d lt =
-        answered_true-below (vertices g) _ _ (All-weaker (λ (d : Done Application). IsWanted Pull g members wanted d.to) (λ (d : Done Application). d.to.target < vertices g) (λ d w. wanted_target Pull g members wanted d.to lawful w) _ to_wanted)
-        ((noted_are _).0 (Contains-get_or noted k d lt))
+    pub pull_within : All (λ v. v < vertices g) noted
+    pull_within =
+        let p = noted_pick in
+        let P : ℕ → Type 0 = λ v. v < vertices g in
+        subst (All P) (sym p.1) (All-picked P p.0 (below (vertices g)) (below_in (vertices g)))
 
-    pub pulled_all : (subset : Subset) → subset.n ≡ vertices g → subset.dense ≡ true → ((v : ℕ) → Contains subset.members v ↔ Contains noted v) → IsMapped Pull g members wanted gives old new subset
-    pulled_all subset n form has =
-        let all = all_gathered Gives (λ (a : Application). a.target) Wanted chunks old new outs order ran in
+    pub pulled_all : vertices g ≤ chunks * size → (subset : Subset) → subset.n ≡ vertices g → subset.dense ≡ true → subset.members ≡ noted → IsMapped Pull g members wanted gives old new subset
+    pulled_all enough subset n form members_is =
+        let all = all_gathered Gives (λ (a : Application). a.target) Wanted Ran (λ c o added r. r.0) chunks old new outs order ran in
         let to = λ (d : Done Application). d.to in
+        let to_wanted : All (λ (d : Done Application). IsWanted Pull g members wanted d.to) all.done = λ k d lt. (all.by.each k d lt).1 in
         let covers : (c : ℕ) → Covers Pull g members wanted (chunk_of (below (vertices g)) size c) (Wanted c) = λ c. pull_covers g lawful edges flip members wanted (chunk_of (below (vertices g)) size c) (chunk_in (vertices g) size c) in
-        let whole : length (below (vertices g)) ≤ chunks * size = omega (arith, length-range_with_len 0 (vertices g)) in record {
+        let whole : length (below (vertices g)) ≤ chunks * size = omega (arith, length-range_with_len 0 (vertices g)) in
+        let held = members_is ∙ noted_is in record {
           done = all.done;
           applied = record { each = λ k d lt. (all.by.each k d lt).0; log_is = all.by.log_is };
           once = record {
@@ -192,5 +217,8 @@ module _ (gives : Application → Bool → Log → Type 0) (g : RawGraph) (lawfu
           };
           n = n;
           form = form;
-          members_are = λ v. ((λ h. (noted_are v).0 ((has v).0 h)), (λ h. (has v).1 ((noted_are v).1 h)));
+          members_are = λ v. (
+            (λ h. (all.noted v).0 (subst (λ l. Contains l v) held h)),
+            (λ h. subst (λ l. Contains l v) (sym held) ((all.noted v).1 h)),
+          );
         }

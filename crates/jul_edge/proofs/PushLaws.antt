@@ -1,22 +1,23 @@
 -- A push: its condition at each place.
 use Rattle.std.proofs.Common.{zero, suc, ◌≡◌, ℕ, ◌*◌, ◌<◌, ◌≤◌, List, [], ◌∷◌, ◌++◌, length, map, drop, refl, ap, sym, ◌∙◌, subst, arith, All, Bool, false}
 use Rattle.std.specs.Prelude.{Contains}
-use Rattle.std.proofs.Common.{le_refl, append-nil}
+use Rattle.std.proofs.Common.{append-nil}
 use Rattle.std.proofs.lemmas.List.{length-replicate}
-use Rattle.std.proofs.lemmas.List.Elements.{All-take, All-drop, All-nil, All-cons, All-head, All-tail, Contains-get_or}
+use Rattle.std.proofs.lemmas.List.Elements.{All-take, All-drop, Contains-get_or}
 use Rattle.jul_base.specs.declared.graphs.RawGraph.{RawGraph}
 use Rattle.jul_base.specs.Graph.{vertices, places, IsPlaceOf}
 use Rattle.jul_base.specs.Logs.{Log, Home, Entry, followed_by}
 use Rattle.jul_base.proofs.LogLaws.{append-equal, followed_by-assoc, followed_by-append}
 use Rattle.jul_base.proofs.GraphLaws.{place_in_range, target_in_range}
 use Rattle.jul_pool.specs.Added.{followed_by_all, HasAdded}
+use Rattle.jul_pool.proofs.PartLaws.{length-followed_by, length-followed_by_right}
 use Rattle.jul_subset.specs.Applications.{Done, answered_true, AppliedInOrder}
 use Rattle.jul_subset.specs.Chunks.{chunk_of}
-use Rattle.jul_subset.proofs.ApplicationLaws.{applied_from_nil}
+use Rattle.jul_subset.proofs.ApplicationLaws.{All-from_map, applied_from_nil}
 use Rattle.jul_edge.specs.declared.functions.Direction.{Direction}
 use Rattle.jul_edge.specs.declared.functions.Direction.TheVariants.{Push}
 use Rattle.jul_edge.specs.Edges.{Application, IsWanted}
-use Rattle.jul_rows.specs.Visits.{Step, IsPushed, HasPushed, noted_of}
+use Rattle.jul_rows.specs.Visits.{Step, Visited, IsPushed, HasVisited, HasPushed, noted_of}
 use Rattle.jul_edge.specs.Covers.{app_of, Applies, WantedGives}
 use Rattle.jul_edge.specs.Pushes.{MayPush, StampedGives, stamp_of, no_entries}
 use Rattle.jul_edge.proofs.ApplyingLaws.{applied_steps}
@@ -50,37 +51,39 @@ chunk_members P members size c each =
     All-take Q size (drop (c * size) members) (All-drop Q (c * size) members (λ k d lt. (each k d lt, Contains-get_or members k d lt)))
 
 pub All-to : (P : Application → Type 0) (done : List (Done Application)) (apps : List Application) → map (λ (d : Done Application). d.to) done ≡ apps → All P apps → All (λ (d : Done Application). P d.to) done
-All-to P done apps e all = All-from_map P done (subst (All P) (sym e) all)
-  where
-    All-from_map : (P : Application → Type 0) (ds : List (Done Application)) → All P (map (λ (d : Done Application). d.to) ds) → All (λ (d : Done Application). P d.to) ds
-    All-from_map P [] h = All-nil _
-    All-from_map P (d ∷ ds) h = All-cons (λ (d : Done Application). P d.to) d ds (All-head P d.to (map (λ (d : Done Application). d.to) ds) h) (All-from_map P ds (All-tail P d.to (map (λ (d : Done Application). d.to) ds) h))
+All-to P done apps e all = All-from_map P (λ (d : Done Application). d.to) done (subst (All P) (sym e) all)
 
--- what the visits of a chunk give, where they are to wanted places
+-- what visits to wanted places applied, from an empty log on
+pub record AppliedRun {T : Type 0} (by : Direction) (g : RawGraph) (members : List ℕ) (wanted : ℕ → Bool) (gives : Application → Bool → Log → Type 0) (log : T → Log) (apps : List Application) (old new : T) (visited : List Visited) : Type 0 where
+  pub done : List (Done Application)
+  pub added : Log
+  pub applied : AppliedInOrder (WantedGives by g members wanted gives) apps [] added done
+  pub noted_are : noted_of visited ≡ answered_true (λ (a : Application). a.target) done
+  pub log_is : log new ≡ followed_by (log old) added
+
+pub applied_run : {T : Type 0} (by : Direction) (g : RawGraph) (members : List ℕ) (wanted : ℕ → Bool) (gives : Application → Bool → Log → Type 0) (log : T → Log) (steps : List Step) (apps : List Application) (old new : T) (visited : List Visited) →
+    HasVisited (Applies by g gives log) steps old new visited → map (app_of by g) steps ≡ apps → All (IsWanted by g members wanted) apps → AppliedRun by g members wanted gives log apps old new visited
+applied_run by g members wanted gives log steps apps old new visited h same each =
+    let a = applied_steps by g gives log steps visited old new h in
+    let b = applied_from_nil gives (map (app_of by g) steps) (log old) (log new) a.0 a.1 in
+    let to_wanted : All (λ (d : Done Application). IsWanted by g members wanted d.to) a.0 = All-to (IsWanted by g members wanted) a.0 apps (b.0.to_is ∙ same) each in
+    record {
+      done = a.0;
+      added = followed_by_all [] (map (λ (d : Done Application). d.added) a.0);
+      applied = record { by = record { each = λ k d lt. (b.0.by.each k d lt, to_wanted k d lt); log_is = b.0.by.log_is }; to_is = b.0.to_is ∙ same };
+      noted_are = a.2;
+      log_is = b.1;
+    }
+
+-- what the push of a chunk gives
 pub run_gives : {T : Type 0} (by : Direction) (g : RawGraph) (members : List ℕ) (wanted : ℕ → Bool) (gives : Application → Bool → Log → Type 0) (log : T → Log) (steps : List Step) (apps : List Application) (old new : T) (before after : List ℕ) →
     HasPushed (Applies by g gives log) steps old new before after → before ≡ [] → map (app_of by g) steps ≡ apps → All (IsWanted by g members wanted) apps →
     (added : Log) × ((done : List (Done Application)) × AppliedInOrder (WantedGives by g members wanted gives) apps [] added done × (after ≡ answered_true (λ (a : Application). a.target) done)) × (log new ≡ followed_by (log old) added)
 run_gives by g members wanted gives log steps apps old new before after h none same each =
-    let a = applied_steps by g gives log steps h.visited old new h.has_visited in
-    let b = applied_from_nil gives (map (app_of by g) steps) (log old) (log new) a.0 a.1 in
-    let added = followed_by_all [] (map (λ (d : Done Application). d.added) a.0) in
-    let is : after ≡ answered_true (λ (a : Application). a.target) a.0 = h.noted_are ∙ ap (λ l. l ++ noted_of h.visited) none ∙ a.2 in
-    let to_wanted : All (λ (d : Done Application). IsWanted by g members wanted d.to) a.0 = All-to (IsWanted by g members wanted) a.0 apps (b.0.to_is ∙ same) each in
-    let given : AppliedInOrder (WantedGives by g members wanted gives) apps [] added a.0 = record { by = record { each = λ k d lt. (b.0.by.each k d lt, to_wanted k d lt); log_is = b.0.by.log_is }; to_is = b.0.to_is ∙ same } in
-    (added, (a.0, given, is), b.1)
+    let r = applied_run by g members wanted gives log steps apps old new h.visited h.has_visited same each in
+    (r.added, (r.done, r.applied, h.noted_are ∙ ap (λ l. l ++ noted_of h.visited) none ∙ r.noted_are), r.log_is)
 
--- lengths of logs
-length-followed_by : (xs ys : Log) → length ys ≤ length xs → length (followed_by xs ys) ≡ length xs
-length-followed_by [] [] h = refl
-length-followed_by [] (y ∷ ys) h = absurd (omega arith)
-length-followed_by (x ∷ xs) [] h = refl
-length-followed_by (x ∷ xs) (y ∷ ys) h = omega (arith, length-followed_by xs ys (omega arith))
-
-length-followed_by_right : (xs ys : Log) → length ys ≤ length (followed_by xs ys)
-length-followed_by_right [] ys = le_refl (length ys)
-length-followed_by_right (x ∷ xs) [] = omega arith
-length-followed_by_right (x ∷ xs) (y ∷ ys) = omega (arith, length-followed_by_right xs ys)
-
+-- logs without an entry, and with more parts than they need
 followed_by-no_entries : (xs : Log) (parts : ℕ) → length xs ≡ parts → followed_by xs (no_entries parts) ≡ xs
 followed_by-no_entries [] zero e = refl
 followed_by-no_entries [] (suc n) e = absurd (omega arith)

@@ -20,8 +20,8 @@ use Rattle.jul_base.proofs.TimesLaws.{times-append, times_here, times_other}
 use Rattle.jul_words.specs.Seats.{Seat}
 use Rattle.jul_subset.specs.Applications.{Done, answered_true}
 use Rattle.jul_subset.specs.Chunks.{chunk_of}
-use Rattle.jul_subset.proofs.ApplicationLaws.{NotesChunk, all_gathered}
-use Rattle.jul_subset.proofs.PickingLaws.{same_holds, chunks_weigh}
+use Rattle.jul_subset.proofs.ApplicationLaws.{NotesChunk, notes_hits, all_gathered}
+use Rattle.jul_subset.proofs.PickingLaws.{chunks_weigh}
 use Rattle.jul_edge.specs.declared.functions.Direction.{Direction}
 use Rattle.jul_edge.specs.declared.functions.Direction.TheVariants.{Push}
 use Rattle.jul_edge.specs.Edges.{Application, IsWanted, places_of}
@@ -125,7 +125,8 @@ module _ (gives : Application → Bool → Log → Type 0) (g : RawGraph) (round
         length members ≤ chunks * size → length old ≡ parts → length new ≡ parts → noted ≡ flat_map (λ (o : Vec ℕ Global). o.items) outs →
         PushedAll gives g round members wanted old new seat_old seat_new noted
     pushed_all chunks old new seat_old seat_new outs order noted ran enough size_old size_new noted_is =
-        let all = all_gathered Gives (λ (a : Application). a.target) Wanted chunks _ _ outs order ran in
+        let target = λ (a : Application). a.target in
+        let all = all_gathered Gives target Wanted (NotesChunk Gives target Wanted) (notes_hits Gives target Wanted) chunks _ _ outs order ran in
         let a : Apart old seat_old.log all.done = apart all.done all.by.each old seat_old.log size_old in
         let own = followed_by_all old (map (λ (x : Stamped). x.done.added) a.stamped) in
         let both : (new ≡ own) × (seat_new.log ∷ [] ≡ (seat_old.log ++ stamps round a.stamped) ∷ []) = append-equal new own (seat_new.log ∷ []) ((seat_old.log ++ stamps round a.stamped) ∷ []) (size_new ∙ sym a.size) (all.by.log_is ∙ a.log_is) in
@@ -140,9 +141,9 @@ module _ (gives : Application → Bool → Log → Type 0) (g : RawGraph) (round
           log_is = both.0;
           stamps_are = let e : seat_new.log ∷ [] ≡ (seat_old.log ++ stamps round a.stamped) ∷ [] = both.1 in cc;
           noted_are = λ v.
-              let same : Contains (answered_true (λ (a : Application). a.target) all.done) v ↔ Contains (flat_map (λ (o : Vec ℕ Global). o.items) outs) v = same_holds _ _ all.noted v in
+              let same : Contains (flat_map (λ (o : Vec ℕ Global). o.items) outs) v ↔ Contains (answered_true (λ (a : Application). a.target) all.done) v = all.noted v in
               let P : List ℕ → Type 0 = λ l. Contains l v in (
-                (λ h. subst P (sym a.firsts_are) (same.1 (subst P noted_is h))),
-                (λ h. subst P (sym noted_is) (same.0 (subst P a.firsts_are h))),
+                (λ h. subst P (sym a.firsts_are) (same.0 (subst P noted_is h))),
+                (λ h. subst P (sym noted_is) (same.1 (subst P a.firsts_are h))),
               );
         }

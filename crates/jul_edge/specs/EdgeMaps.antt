@@ -2,7 +2,7 @@
 use Rattle.std.specs.Prelude.{ℕ, ◌+◌, ◌/◌, ◌≤◌, ◌<◌, List, [], ◌++◌, ◌≡◌, ◌↔◌, Bool, true, false, length, map, All, Contains, sum_by, nat_lt, if◌then◌else◌}
 use Rattle.jul_base.specs.declared.graphs.RawGraph.{RawGraph}
 use Rattle.jul_base.specs.Graph.{vertices, places, row}
-use Rattle.jul_base.specs.Logs.{Log, Entry, STAMP}
+use Rattle.jul_base.specs.Logs.{Log, Entry, Home, STAMP}
 use Rattle.jul_words.specs.Seats.{Seat, IsSeatOf, IsAlone}
 use Rattle.jul_subset.specs.Subsets.{Subset}
 use Rattle.jul_subset.specs.Applications.{Done, answered_true, AppliedBy}
@@ -24,6 +24,15 @@ pub record IsMapped (by : Direction) (g : RawGraph) (members : List ℕ) (wanted
   pub n : subset.n ≡ vertices g
   pub form : subset.dense ≡ is_pull by
   pub members_are : (v : ℕ) → Contains subset.members v ↔ Contains (answered_true (λ (a : Application). a.target) done) v
+
+-- what an edge map did through a token, of which its log, its home, whether it is a root and how many are out are told:
+-- no application added more parts than the log has, and the token is a root of the same home with none out
+pub record HasMapped {T : Type 0} (log_of : T → Log) (home_of : T → List Home) (is_root : T → Bool) (out_of : T → ℕ) (by : Direction) (g : RawGraph) (members : List ℕ) (wanted : ℕ → Bool) (gives : Application → Bool → Log → Type 0) (old new : T) (subset : Subset) : Type 0 where
+  pub mapped : IsMapped by g members wanted gives (log_of old) (log_of new) subset
+  pub parts : All (λ (d : Done Application). length d.added ≤ length (log_of old)) mapped.done
+  pub root : is_root new ≡ true
+  pub none_out : out_of new ≡ 0
+  pub home : home_of new ≡ home_of old
 
 -- the seat of a table with a word for each vertex, the root with none out, and the round is above all that it stamped
 pub record CanStamp (n : ℕ) (table : List ℕ) (round : ℕ) (s : Seat) : Type 0 where

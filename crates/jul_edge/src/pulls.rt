@@ -5,12 +5,11 @@ ghost use Rattle.jul_base.specs.InRows.{IsFlip};
 ghost use Rattle.jul_base.specs.Numbers.{below};
 ghost use Rattle.jul_subset.specs.Subsets.{IsSubset};
 ghost use Rattle.jul_subset.specs.Chunks.{chunk_of};
-ghost use Rattle.jul_subset.specs.Applications.{Done, AppliedInOrder, answered_true};
 ghost use Rattle.jul_edge.specs.declared.functions.Direction.TheVariants.{Pull};
 ghost use Rattle.jul_edge.specs.Edges.{Application, IsWanted};
-ghost use Rattle.jul_edge.specs.EdgeMaps.{IsMapped};
-ghost use Rattle.jul_edge.specs.Covers.{app_of, Applies, WantedGives};
-ghost use Rattle.jul_edge.specs.Pulls.{MayPull, pulled_apps};
+ghost use Rattle.jul_edge.specs.EdgeMaps.{HasMapped};
+ghost use Rattle.jul_edge.specs.Covers.{app_of, Applies};
+ghost use Rattle.jul_edge.specs.Pulls.{MayPull, PulledChunk};
 
 use crate::functions::{Direction, EdgeFn};
 use crate::maps::PullOut;
@@ -76,11 +75,9 @@ impl<'a, F: EdgeFn> Job for PullJob<'a, F> {
         × MayPull (F.can_want j.visit.f.now) (F.can_apply j.visit.f.now) j.visit.rows.now j.in_rows.now
         j.from.now.members (F.wanted j.visit.f.now) home };
 
-    ghost gives = { λ j chunk out added. (done : List (Done Application)) × AppliedInOrder
-        (WantedGives Pull j.visit.rows.now j.from.now.members (F.wanted j.visit.f.now) (F.gives j.visit.f.now))
-        (pulled_apps j.visit.rows.now j.in_rows.now j.from.now.members (F.wanted j.visit.f.now)
-        (chunk_of (below (vertices j.visit.rows.now)) j.size chunk)) [] added done
-        × (out.items ≡ answered_true (λ a. a.target) done) };
+    ghost gives = { λ j chunk out added. PulledChunk (F.gives j.visit.f.now) j.visit.rows.now j.in_rows.now
+        j.from.now.members (F.wanted j.visit.f.now) (chunk_of (below (vertices j.visit.rows.now)) j.size chunk)
+        added out.items };
 
     fn run(&self, chunk: u32, token: &mut F::Token) -> Result<Vec<u32>, AllocError> {
         let n = self.visit.rows.n();
@@ -122,11 +119,8 @@ pub fn edge_pull<R: Threads + Sync, F: EdgeFn, G: Gate>(
     requires apply { (a : Application) → IsWanted Pull rows.now from.now.members (F.wanted f.now) a →
         F.can_apply f.now a (F.Token.home token) }
 
-    ensures mapped { IfOk result (λ r. IsMapped Pull rows.now from.now.members (F.wanted f.now) (F.gives f.now)
-        (F.Token.log token) (F.Token.log r.token) r.subset) }
-    ensures root { IfOk result (λ r. F.Token.is_root r.token ≡ true) }
-    ensures none_out { IfOk result (λ r. F.Token.out r.token ≡ 0) }
-    ensures home { IfOk result (λ r. F.Token.home r.token ≡ F.Token.home token) }
+    ensures made { IfOk result (λ r. HasMapped F.Token.log F.Token.home F.Token.is_root F.Token.out
+        Pull rows.now from.now.members (F.wanted f.now) (F.gives f.now) token r.token r.subset) }
 {
     if from.is_dense() {
         return pull_dense(rt, alloc, team, rows, in_rows, from, f, token);
@@ -153,11 +147,8 @@ fn pull_dense<R: Threads + Sync, F: EdgeFn, G: Gate>(
     requires apply { (a : Application) → IsWanted Pull rows.now from.now.members (F.wanted f.now) a →
         F.can_apply f.now a (F.Token.home token) }
 
-    ensures mapped { IfOk result (λ r. IsMapped Pull rows.now from.now.members (F.wanted f.now) (F.gives f.now)
-        (F.Token.log token) (F.Token.log r.token) r.subset) }
-    ensures root { IfOk result (λ r. F.Token.is_root r.token ≡ true) }
-    ensures none_out { IfOk result (λ r. F.Token.out r.token ≡ 0) }
-    ensures home { IfOk result (λ r. F.Token.home r.token ≡ F.Token.home token) }
+    ensures made { IfOk result (λ r. HasMapped F.Token.log F.Token.home F.Token.is_root F.Token.out
+        Pull rows.now from.now.members (F.wanted f.now) (F.gives f.now) token r.token r.subset) }
 {
     let n = rows.n();
     let chunks = n.div_ceil(team.chunk);
@@ -170,7 +161,7 @@ fn pull_dense<R: Threads + Sync, F: EdgeFn, G: Gate>(
     };
     let ran = run_all(rt, alloc, team, chunks, &job, token)?;
     let noted = joined(alloc, &ran.outs)?;
-    let mut subset = VertexSubset::from_unordered(alloc, n, noted)?;
+    let mut subset = VertexSubset::from_increasing(alloc, n, noted);
     subset.to_dense()?;
     Ok(PullOut {
         subset,

@@ -6,7 +6,7 @@ ghost use Rattle.jul_subset.specs.Chunks.{chunk_of};
 ghost use Rattle.jul_subset.specs.Applications.{Done, AppliedInOrder, answered_true};
 ghost use Rattle.jul_edge.specs.declared.functions.Direction.TheVariants.{Push};
 ghost use Rattle.jul_edge.specs.Edges.{Application, IsWanted};
-ghost use Rattle.jul_edge.specs.EdgeMaps.{IsMapped, CanStamp, HasStamped};
+ghost use Rattle.jul_edge.specs.EdgeMaps.{HasMapped, CanStamp, HasStamped};
 ghost use Rattle.jul_edge.specs.Covers.{app_of, Applies, WantedGives};
 ghost use Rattle.jul_edge.specs.Pushes.{StampedGives, MayPush, PushedAll, pushed_apps};
 ghost use Rattle.jul_words.specs.Seats.{IsSeatOf, IsAlone};
@@ -127,12 +127,9 @@ pub fn edge_push<R: Threads + Sync, F: EdgeFn, G: Gate>(
         F.can_apply f.now a (F.Token.home token) }
 
     ensures direction { IfOk result (λ r. r.direction ≡ Push) }
-    ensures mapped { IfOk result (λ r. IsMapped Push rows.now from.now.members (F.wanted f.now) (F.gives f.now)
-        (F.Token.log token) (F.Token.log r.token) r.subset) }
+    ensures made { IfOk result (λ r. HasMapped F.Token.log F.Token.home F.Token.is_root F.Token.out
+        Push rows.now from.now.members (F.wanted f.now) (F.gives f.now) token r.token r.subset) }
     ensures stamped { IfOk result (λ r. HasStamped Push round stamp_seat r.stamp_seat) }
-    ensures root { IfOk result (λ r. F.Token.is_root r.token ≡ true) }
-    ensures none_out { IfOk result (λ r. F.Token.out r.token ≡ 0) }
-    ensures home { IfOk result (λ r. F.Token.home r.token ≡ F.Token.home token) }
 {
     prove!(from.n() == rows.n());
     match from.as_slice() {
@@ -180,12 +177,9 @@ pub(crate) fn push_list<R: Threads + Sync, F: EdgeFn, G: Gate>(
         F.can_apply f.now a (F.Token.home token) }
 
     ensures direction { IfOk result (λ r. r.direction ≡ Push) }
-    ensures mapped { IfOk result (λ r. IsMapped Push rows.now members.now (F.wanted f.now) (F.gives f.now)
-        (F.Token.log token) (F.Token.log r.token) r.subset) }
+    ensures made { IfOk result (λ r. HasMapped F.Token.log F.Token.home F.Token.is_root F.Token.out
+        Push rows.now members.now (F.wanted f.now) (F.gives f.now) token r.token r.subset) }
     ensures stamped { IfOk result (λ r. HasStamped Push round stamp_seat r.stamp_seat) }
-    ensures root { IfOk result (λ r. F.Token.is_root r.token ≡ true) }
-    ensures none_out { IfOk result (λ r. F.Token.out r.token ≡ 0) }
-    ensures home { IfOk result (λ r. F.Token.home r.token ≡ F.Token.home token) }
 {
     let visit = PushVisit { rows, f, round };
     let hand = StampHand {

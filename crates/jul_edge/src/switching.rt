@@ -5,7 +5,7 @@ ghost use Rattle.jul_base.specs.InRows.{IsFlip};
 ghost use Rattle.jul_subset.specs.Subsets.{IsSubset};
 ghost use Rattle.jul_edge.specs.declared.functions.Direction.{Direction};
 ghost use Rattle.jul_edge.specs.Edges.{Application, IsWanted};
-ghost use Rattle.jul_edge.specs.EdgeMaps.{IsMapped, CanStamp, HasStamped, reach, direction_for};
+ghost use Rattle.jul_edge.specs.EdgeMaps.{HasMapped, CanStamp, HasStamped, reach, direction_for};
 
 use crate::functions::{Direction, EdgeFn};
 use crate::maps::EdgeOut;
@@ -49,12 +49,9 @@ pub fn edge_map<R: Threads + Sync, F: EdgeFn, G: Gate>(
         IsWanted by rows.now from.now.members (F.wanted f.now) a → F.can_apply f.now a (F.Token.home token) }
 
     ensures direction { IfOk result (λ r. r.direction ≡ direction_for rows.now from.now.members) }
-    ensures mapped { IfOk result (λ r. IsMapped r.direction rows.now from.now.members (F.wanted f.now)
-        (F.gives f.now) (F.Token.log token) (F.Token.log r.token) r.subset) }
+    ensures made { IfOk result (λ r. HasMapped F.Token.log F.Token.home F.Token.is_root F.Token.out
+        r.direction rows.now from.now.members (F.wanted f.now) (F.gives f.now) token r.token r.subset) }
     ensures stamped { IfOk result (λ r. HasStamped r.direction round stamp_seat r.stamp_seat) }
-    ensures root { IfOk result (λ r. F.Token.is_root r.token ≡ true) }
-    ensures none_out { IfOk result (λ r. F.Token.out r.token ≡ 0) }
-    ensures home { IfOk result (λ r. F.Token.home r.token ≡ F.Token.home token) }
 {
     prove!(from.n() == rows.n());
     match from.as_slice() {
@@ -99,12 +96,9 @@ fn map_list<R: Threads + Sync, F: EdgeFn, G: Gate>(
         IsWanted by rows.now members.now (F.wanted f.now) a → F.can_apply f.now a (F.Token.home token) }
 
     ensures direction { IfOk result (λ r. r.direction ≡ direction_for rows.now members.now) }
-    ensures mapped { IfOk result (λ r. IsMapped r.direction rows.now members.now (F.wanted f.now)
-        (F.gives f.now) (F.Token.log token) (F.Token.log r.token) r.subset) }
+    ensures made { IfOk result (λ r. HasMapped F.Token.log F.Token.home F.Token.is_root F.Token.out
+        r.direction rows.now members.now (F.wanted f.now) (F.gives f.now) token r.token r.subset) }
     ensures stamped { IfOk result (λ r. HasStamped r.direction round stamp_seat r.stamp_seat) }
-    ensures root { IfOk result (λ r. F.Token.is_root r.token ≡ true) }
-    ensures none_out { IfOk result (λ r. F.Token.out r.token ≡ 0) }
-    ensures home { IfOk result (λ r. F.Token.home r.token ≡ F.Token.home token) }
 {
     if !reaches_far(rows, members) {
         return push_list(

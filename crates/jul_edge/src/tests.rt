@@ -7,13 +7,14 @@ ghost use Rattle.jul_words.specs.Seats.{entry, IsAlone};
 ghost use Rattle.jul_edge.specs.EdgeMaps.{CanStamp};
 
 use super::*;
-use jul_base::{Free, Ids, OpenGate, RawGraph};
+use jul_base::{Free, Gate, Ids, OpenGate, RawGraph};
 use jul_pool::Team;
 use jul_rows::Rows;
 use jul_subset::VertexSubset;
 use jul_words::{MinHand, MinWords, StampSeat, StampWords, ZeroFloors};
 use std::alloc::{AllocError, Global};
 use std::process::Abort;
+use std::sync::atomic::{AtomicU64, Ordering};
 use std::test::Fail;
 use std::thread::Threads;
 
@@ -87,10 +88,10 @@ fn stamps_for(alloc: Global, rows: &Rows) -> Result<(StampWords, StampSeat), All
 }
 
 /// The members of a subset by push, each once.
-fn pushed<R: Threads + Sync + Abort>(
+fn pushed<R: Threads + Sync + Abort, G: Gate>(
     rt: &R,
     alloc: Global,
-    team: &Team<'_, OpenGate>,
+    team: &Team<'_, G>,
     rows: &Rows,
     from: &VertexSubset,
 ) -> Result<Vec<u32>, Fail>
@@ -115,10 +116,10 @@ fn pushed<R: Threads + Sync + Abort>(
 }
 
 /// The members of a subset by pull, each once.
-fn pulled<R: Threads + Sync + Abort>(
+fn pulled<R: Threads + Sync + Abort, G: Gate>(
     rt: &R,
     alloc: Global,
-    team: &Team<'_, OpenGate>,
+    team: &Team<'_, G>,
     rows: &Rows,
     from: &VertexSubset,
 ) -> Result<Vec<u32>, Fail>
@@ -131,10 +132,10 @@ fn pulled<R: Threads + Sync + Abort>(
 }
 
 /// The members of a subset by `edge_map`, and whether it pulled.
-fn mapped<R: Threads + Sync + Abort>(
+fn mapped<R: Threads + Sync + Abort, G: Gate>(
     rt: &R,
     alloc: Global,
-    team: &Team<'_, OpenGate>,
+    team: &Team<'_, G>,
     rows: &Rows,
     from: &VertexSubset,
 ) -> Result<(Vec<u32>, bool), Fail>
@@ -211,6 +212,60 @@ fn no_vertex_pushes_and_gives_none(rt: HostRuntime) -> Result<(), Fail> {
         let (members, pulled) = reached(&rt, rt.alloc(), workers, &rows, &[])?;
         assert_eq!(rt; members.len(), 0, "{workers} workers");
         assert!(rt; !pulled, "0 doesn't exceed 0");
+    }
+    Ok(())
+}
+
+/// Counts its passes.
+#[derive(Drop)]
+struct CountGate {
+    passes: AtomicU64,
+}
+
+impl Gate for CountGate {
+    fn pass(&self, _worker: u32, _chunk: u32) {
+        self.passes.fetch_add(1, Ordering::SeqCst);
+    }
+}
+
+#[test]
+fn a_push_is_cut_by_members_and_a_pull_by_vertices(rt: HostRuntime) -> Result<(), Fail> {
+    let rows = chain(&rt, rt.alloc())?;
+    let few = VertexSubset::from_list(rt.alloc(), rows.n(), &[10, 11])?;
+    let many = VertexSubset::from_list(rt.alloc(), rows.n(), &[1, 2, 3, 4, 5])?;
+    for (chunk, pushes, pulls) in [(1u32, 2u64, 100u64), (2, 1, 50), (30, 1, 4), (65_536, 1, 1)] {
+        let gate = CountGate {
+            passes: AtomicU64::new(0),
+        };
+        let team = Team {
+            workers: 2,
+            chunk,
+            gate: &gate,
+        };
+        pushed(&rt, rt.alloc(), &team, &rows, &few)?;
+        assert_eq!(rt;
+            gate.passes.swap(0, Ordering::SeqCst),
+            pushes,
+            "chunk {chunk}"
+        );
+        pulled(&rt, rt.alloc(), &team, &rows, &few)?;
+        assert_eq!(rt;
+            gate.passes.swap(0, Ordering::SeqCst),
+            pulls,
+            "chunk {chunk}"
+        );
+        mapped(&rt, rt.alloc(), &team, &rows, &few)?;
+        assert_eq!(rt;
+            gate.passes.swap(0, Ordering::SeqCst),
+            pushes,
+            "chunk {chunk}"
+        );
+        mapped(&rt, rt.alloc(), &team, &rows, &many)?;
+        assert_eq!(rt;
+            gate.passes.swap(0, Ordering::SeqCst),
+            pulls,
+            "chunk {chunk}"
+        );
     }
     Ok(())
 }

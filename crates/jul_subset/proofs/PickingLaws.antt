@@ -1,29 +1,21 @@
 -- What chunks pick of an increasing list, put together.
-use Rattle.std.proofs.Common.{zero, suc, ◌≡◌, ℕ, ◌+◌, ◌*◌, ◌<◌, ◌≤◌, ◌↔◌, List, [], ◌∷◌, ◌++◌, length, map, drop, get_or, refl, ap, sym, ◌∙◌, subst, arith, All, Bool, true, false, Some, slice_get, Vec, Global, ⊎_elim, if◌then◌else◌}
-use Rattle.std.specs.Prelude.{sum_by, Contains, ◌==◌}
+use Rattle.std.proofs.Common.{zero, suc, ◌≡◌, ℕ, ◌+◌, ◌*◌, ◌<◌, ◌≤◌, List, [], ◌∷◌, ◌++◌, length, map, drop, get_or, refl, ap, sym, ◌∙◌, subst, arith, All, Bool, true, false, Some, slice_get, Vec, Global, if◌then◌else◌}
+use Rattle.std.specs.Prelude.{sum_by}
 use Rattle.std.specs.List.{flat_map, filter, AllPairs, range_with_len}
 use Rattle.std.specs.List.Sorted.{IsStrictlyIncreasing}
-use Rattle.std.proofs.lemmas.Bool.Decides.{nat_tests}
-use Rattle.std.proofs.lemmas.Bool.{cases_eq}
 use Rattle.std.proofs.lemmas.List.{drop_all, length-map}
 use Rattle.std.proofs.lemmas.List.Sums.{sum_by-append}
 use Rattle.std.proofs.lemmas.List.Elements.{filter-append, All-nil, All-cons, All-head, All-tail}
 use Rattle.std.proofs.lemmas.List.Kept.{AllPairs-from_increasing}
 use Rattle.jul_base.specs.Logs.{Log}
-use Rattle.jul_base.proofs.SetLaws.{Contains-cons, Contains-cons_cases}
 use Rattle.jul_pool.specs.Runs.{EachRunOnce}
 use Rattle.jul_subset.specs.Chunks.{chunk_of}
-use Rattle.jul_subset.specs.Applications.{Done, answered_true, AppliedOnce, SameItems}
+use Rattle.jul_subset.specs.Applications.{Done, answered_true, AppliedOnce}
+use Rattle.jul_subset.specs.Picks.{picked, PicksOf}
 use Rattle.jul_subset.proofs.ChunkLaws.{chunk_then, given_at}
-use Rattle.jul_subset.proofs.ApplicationLaws.{if_append, NotesChunk, all_gathered}
+use Rattle.jul_subset.proofs.ApplicationLaws.{if_append, NotesChunk, notes_hits, all_gathered, done_parts}
 
--- those of a list at which there is true
-abbrev picked : List Bool → List ℕ → List ℕ
-picked [] xs = []
-picked (b ∷ bs) [] = []
-picked (b ∷ bs) (x ∷ xs) = if b then x ∷ picked bs xs else picked bs xs
-
-picked-append : (bs cs : List Bool) (xs ys : List ℕ) → length bs ≡ length xs → picked (bs ++ cs) (xs ++ ys) ≡ picked bs xs ++ picked cs ys
+pub picked-append : (bs cs : List Bool) (xs ys : List ℕ) → length bs ≡ length xs → picked (bs ++ cs) (xs ++ ys) ≡ picked bs xs ++ picked cs ys
 picked-append [] cs [] ys e = refl
 picked-append [] cs (x ∷ xs) ys e = absurd (omega arith)
 picked-append (b ∷ bs) cs [] ys e = absurd (omega arith)
@@ -71,23 +63,19 @@ increasing_again low (x ∷ (y ∷ ys)) (first, (second, up)) (suc k) lt =
     let rest : get_or (y ∷ ys) k 0 < get_or (y ∷ ys) (k + 1) 0 = increasing_again (x + 1) (y ∷ ys) (second, up) k (omega arith) in
     omega (arith, rest, ap (λ i. get_or (x ∷ (y ∷ ys)) i 0) e)
 
-IsStrictlyIncreasing-picked : (bs : List Bool) (xs : List ℕ) → IsStrictlyIncreasing xs → IsStrictlyIncreasing (picked bs xs)
+pub IsStrictlyIncreasing-picked : (bs : List Bool) (xs : List ℕ) → IsStrictlyIncreasing xs → IsStrictlyIncreasing (picked bs xs)
 IsStrictlyIncreasing-picked bs xs up = increasing_again 0 (picked bs xs) (picked_rises 0 bs xs (rises_all xs up))
 
 if_all : (P : ℕ → Type 0) (b : Bool) (x : ℕ) (ps : List ℕ) → P x → All P ps → All P (if b then x ∷ ps else ps)
 if_all P true x ps p all = All-cons P x ps p all
 if_all P false x ps p all = all
 
-All-picked : (P : ℕ → Type 0) (bs : List Bool) (xs : List ℕ) → All P xs → All P (picked bs xs)
+pub All-picked : (P : ℕ → Type 0) (bs : List Bool) (xs : List ℕ) → All P xs → All P (picked bs xs)
 All-picked P [] xs all = All-nil P
 All-picked P (b ∷ bs) [] all = All-nil P
 All-picked P (b ∷ bs) (x ∷ xs) all = if_all P b x (picked bs xs) (All-head P x xs all) (All-picked P bs xs (All-tail P x xs all))
 
--- each out picks of its chunk
-abbrev PicksOf : List ℕ → List ℕ → Type 0
-PicksOf chunk out = (bs : List Bool) × (length bs ≡ length chunk) × (out ≡ picked bs chunk)
-
--- then together they pick of the whole list
+-- where each result picks of its chunk, they together pick of the whole list
 picks_together : (xs : List ℕ) (size k : ℕ) (outs : List (Vec ℕ Global)) → ((i : ℕ) (o : Vec ℕ Global) → slice_get outs i ≡ Some o → PicksOf (chunk_of xs size (k + i)) o.items)
     → (bs : List Bool) × (flat_map (λ (o : Vec ℕ Global). o.items) outs ≡ picked bs (drop (k * size) xs))
 picks_together xs size k [] each = ([], refl)
@@ -116,41 +104,6 @@ filters_together p xs size k (o ∷ outs) enough each =
     ap (λ l. l ++ flat_map (λ (o : Vec ℕ Global). o.items) outs) first ∙ ap (λ l. filter p (chunk_of xs size k) ++ l) rest
     ∙ sym (filter-append p (chunk_of xs size k) (drop ((k + 1) * size) xs)) ∙ ap (filter p) (sym (chunk_then xs size k))
 
--- how often v stands in a list
-count_of : ℕ → ℕ → ℕ
-count_of v x = if x == v then 1 else 0
-
-counted_here : (v x : ℕ) → x ≡ v → count_of v x ≡ 1
-unfolding count_of
-counted_here v x e = grind (arith, nat_tests)
-
-counted_other : (v x : ℕ) → (x ≡ v → ⊥) → count_of v x ≡ 0
-unfolding count_of
-counted_other v x ne = grind (arith, nat_tests)
-
-some_from_Contains : (v : ℕ) (xs : List ℕ) → Contains xs v → 0 < sum_by (count_of v) xs
-some_from_Contains v [] (k, lt, at) = absurd (omega arith)
-some_from_Contains v (x ∷ xs) held =
-    ⊎_elim
-    (λ (e : x ≡ v). omega (arith, sum_by-append (count_of v) (x ∷ []) xs, counted_here v x e))
-    (λ (later : Contains xs v). omega (arith, sum_by-append (count_of v) (x ∷ []) xs, some_from_Contains v xs later))
-    (Contains-cons_cases x xs v held)
-
-Contains-from_some : (v : ℕ) (xs : List ℕ) → 0 < sum_by (count_of v) xs → Contains xs v
-Contains-from_some v [] h = absurd (omega arith)
-Contains-from_some v (x ∷ xs) h =
-    ⊎_elim
-    (λ (e : x ≡ v). (0, omega arith, e))
-    (λ (ne : x ≡ v → ⊥). Contains-cons x xs v (Contains-from_some v xs (omega (arith, h, sum_by-append (count_of v) (x ∷ []) xs, counted_other v x ne))))
-    (cases_eq x v)
-
--- lists of equal sums hold the same numbers
-pub same_holds : (xs ys : List ℕ) → SameItems xs ys → (v : ℕ) → Contains xs v ↔ Contains ys v
-same_holds xs ys same v = (
-  (λ h. Contains-from_some v ys (omega (arith, some_from_Contains v xs h, same (count_of v)))),
-  (λ h. Contains-from_some v xs (omega (arith, some_from_Contains v ys h, same (count_of v)))),
-)
-
 -- the chunks of a list weigh together what the list weighs
 pub chunks_weigh : (h : ℕ → ℕ) (xs : List ℕ) (size k n : ℕ) → length xs ≤ (k + n) * size → sum_by (λ c. sum_by h (chunk_of xs size c)) (range_with_len k n) ≡ sum_by h (drop (k * size) xs)
 chunks_weigh h xs size k zero enough =
@@ -161,6 +114,18 @@ chunks_weigh h xs size k (suc n) enough =
     let enough' : length xs ≤ (k + 1 + n) * size = subst (λ j. length xs ≤ j * size) s enough in
     let g = λ (c : ℕ). sum_by h (chunk_of xs size c) in
     omega (arith, sum_by-append g (k ∷ []) (range_with_len (k + 1) n), chunks_weigh h xs size (k + 1) n enough', ap (sum_by h) (chunk_then xs size k), sum_by-append h (chunk_of xs size k) (drop ((k + 1) * size) xs))
+
+-- the results of all chunks pick of the whole list
+pub chunks_pick : (Ran : ℕ → Vec ℕ Global → Log → Type 0) (xs : List ℕ) (size chunks : ℕ) (old new : Log) (outs : List (Vec ℕ Global)) (order : List ℕ) →
+    ((chunk : ℕ) (out : Vec ℕ Global) (added : Log) → Ran chunk out added → PicksOf (chunk_of xs size chunk) out.items) → EachRunOnce Ran chunks old new outs order →
+    (bs : List Bool) × (flat_map (λ (o : Vec ℕ Global). o.items) outs ≡ picked bs xs)
+chunks_pick Ran xs size chunks old new outs order picks ran =
+    let p = picks_together xs size 0 outs (λ i o e.
+    let z : 0 + i ≡ i = omega arith in
+    let g = given_at Ran chunks old new outs order ran i o e in
+    subst (λ j. PicksOf (chunk_of xs size j) o.items) (sym z) (picks i o g.0 g.1)) in
+    let start : 0 * size ≡ 0 = omega arith in
+    (p.0, p.1 ∙ ap (λ j. picked p.0 (drop j xs)) start)
 
 module _ (gives : ℕ → Bool → Log → Type 0) (xs : List ℕ) (size : ℕ) where
   abbrev Notes : ℕ → Vec ℕ Global → Log → Type 0
@@ -173,42 +138,33 @@ module _ (gives : ℕ → Bool → Log → Type 0) (xs : List ℕ) (size : ℕ) 
     is ∙ answered_picked done ∙ ap (picked (map (λ (d : Done ℕ). d.answer) done)) a.to_is,
   )
 
-  mapped_picks : (chunks : ℕ) (old new : Log) (outs : List (Vec ℕ Global)) (order : List ℕ) → EachRunOnce Notes chunks old new outs order
-      → (bs : List Bool) × (flat_map (λ (o : Vec ℕ Global). o.items) outs ≡ picked bs xs)
-  mapped_picks chunks old new outs order ran =
-      let p = picks_together xs size 0 outs (λ i o e.
-      let z : 0 + i ≡ i = omega arith in
-      let g = given_at Notes chunks old new outs order ran i o e in
-      subst (λ j. PicksOf (chunk_of xs size j) o.items) (sym z) (notes_pick i o g.0 g.1)) in
-      let start : 0 * size ≡ 0 = omega arith in
-      (p.0, p.1 ∙ ap (λ j. picked p.0 (drop j xs)) start)
-
   -- the results of all chunks are an increasing list
   pub mapped_increasing : (chunks : ℕ) (old new : Log) (outs : List (Vec ℕ Global)) (order : List ℕ) → EachRunOnce Notes chunks old new outs order → IsStrictlyIncreasing xs
       → IsStrictlyIncreasing (flat_map (λ (o : Vec ℕ Global). o.items) outs)
   mapped_increasing chunks old new outs order ran up =
-      let p = mapped_picks chunks old new outs order ran in
+      let p = chunks_pick Notes xs size chunks old new outs order notes_pick ran in
       subst IsStrictlyIncreasing (sym p.1) (IsStrictlyIncreasing-picked p.0 xs up)
 
   -- of members of the list
   pub mapped_within : (P : ℕ → Type 0) (chunks : ℕ) (old new : Log) (outs : List (Vec ℕ Global)) (order : List ℕ) → EachRunOnce Notes chunks old new outs order → All P xs
       → All P (flat_map (λ (o : Vec ℕ Global). o.items) outs)
   mapped_within P chunks old new outs order ran all =
-      let p = mapped_picks chunks old new outs order ran in
+      let p = chunks_pick Notes xs size chunks old new outs order notes_pick ran in
       subst (All P) (sym p.1) (All-picked P p.0 xs all)
 
   -- each member was applied to once, and the results are those answered true
   pub mapped_once : (chunks : ℕ) (old new : Log) (outs : List (Vec ℕ Global)) (order : List ℕ) → EachRunOnce Notes chunks old new outs order → length xs ≤ chunks * size
-      → AppliedOnce gives (λ v. v) xs old new (flat_map (λ (o : Vec ℕ Global). o.items) outs)
-  mapped_once chunks old new outs order ran enough =
-      let g = all_gathered gives (λ v. v) (chunk_of xs size) chunks old new outs order ran in record {
+      → (parts : ℕ) → length old ≡ parts → length new ≡ parts → AppliedOnce gives (λ v. v) xs old new (flat_map (λ (o : Vec ℕ Global). o.items) outs)
+  mapped_once chunks old new outs order ran enough parts size_old size_new =
+      let g = all_gathered gives (λ v. v) (chunk_of xs size) Notes (notes_hits gives (λ v. v) (chunk_of xs size)) chunks old new outs order ran in record {
         done = g.done;
         by = g.by;
+        parts = done_parts parts old new size_old size_new g.done g.by.log_is;
         once = λ h.
             let z : 0 + chunks ≡ chunks = omega arith in
             let start : 0 * size ≡ 0 = omega arith in
             g.once h ∙ chunks_weigh h xs size 0 chunks (subst (λ j. length xs ≤ j * size) (sym z) enough) ∙ ap (λ j. sum_by h (drop j xs)) start;
-        members_are = same_holds (flat_map (λ (o : Vec ℕ Global). o.items) outs) (answered_true (λ v. v) g.done) (λ h. sym (g.noted h));
+        members_are = g.noted;
       }
 
 -- the results of all chunks of a filter are what passes in the whole list

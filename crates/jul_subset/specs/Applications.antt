@@ -1,5 +1,5 @@
 -- What applications of a function answered, and what they added to a log.
-use Rattle.std.specs.Prelude.{ℕ, List, [], ◌∷◌, ◌≡◌, ◌↔◌, Bool, map, All, Contains, sum_by, if◌then◌else◌}
+use Rattle.std.specs.Prelude.{ℕ, ◌≤◌, List, [], ◌∷◌, ◌≡◌, ◌↔◌, Bool, length, map, All, Contains, sum_by, if◌then◌else◌}
 use Rattle.jul_base.specs.Logs.{Log}
 use Rattle.jul_pool.specs.Added.{followed_by_all}
 
@@ -31,9 +31,17 @@ module _ {X : Type 0} (gives : X → Bool → Log → Type 0) where
     pub by : AppliedBy old new done
     pub to_is : map (λ (d : Done X). d.to) done ≡ to
 
-  -- the function was applied to each of these once, and to no other; these vertices are those answered true
+  -- the same from an empty log on, and the vertices answered true were noted, in whatever order and as often as it may be
+  pub record NotesHits (vertex : X → ℕ) (to : List X) (added : Log) (noted : List ℕ) : Type 0 where
+    pub done : List (Done X)
+    pub applied : AppliedInOrder to [] added done
+    pub noted_are : (v : ℕ) → Contains noted v ↔ Contains (answered_true vertex done) v
+
+  -- the function was applied to each of these once, and to no other; no application added more parts than the log has,
+  -- and these vertices are those answered true
   pub record AppliedOnce (vertex : X → ℕ) (to : List X) (old new : Log) (members : List ℕ) : Type 0 where
     pub done : List (Done X)
     pub by : AppliedBy old new done
+    pub parts : All (λ (d : Done X). length d.added ≤ length old) done
     pub once : SameItems (map (λ (d : Done X). d.to) done) to
     pub members_are : (v : ℕ) → Contains members v ↔ Contains (answered_true vertex done) v

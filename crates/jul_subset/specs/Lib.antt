@@ -4,3 +4,4 @@ pub mod Views
 pub mod Lists
 pub mod Chunks
 pub mod Applications
+pub mod Picks

@@ -20,13 +20,22 @@ pub fn chunk_at(ids: &[u32], size: usize, n: usize) -> &[u32]
     members
 }
 
-/// The lists of all chunks, one after another.
+/// The lists of all chunks, one after another. Memory is taken once.
 pub fn joined(alloc: Global, outs: &Vec<Vec<u32>>) -> Result<Vec<u32>, AllocError>
     ensures { IfOk result (λ ids. ids.items ≡ flat_map (λ out. out.items) outs.now.items) }
 {
-    let mut ids = Vec::new(alloc);
+    let mut ids = Vec::with_capacity(alloc, length_of_all(outs))?;
     for out in outs {
         ids.extend_from_slice(out.as_slice())?;
     }
     Ok(ids)
+}
+
+/// How many numbers the lists have together.
+fn length_of_all(outs: &Vec<Vec<u32>>) -> usize {
+    let mut len: usize = 0;
+    for out in outs {
+        len = len.saturating_add(out.len());
+    }
+    len
 }

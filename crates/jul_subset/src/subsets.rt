@@ -4,6 +4,7 @@ ghost use Rattle.std.specs.Prelude.{length, All, Contains};
 ghost use Rattle.std.specs.List.Sorted.{IsStrictlyIncreasing};
 ghost use Rattle.jul_base.specs.declared.limits.TheConstants.{MAX_N};
 ghost use Rattle.jul_subset.specs.Subsets.{Subset, IsSubset};
+ghost use Rattle.jul_subset.specs.Marks.{marked};
 
 use crate::marks::{listed, marks_at};
 use std::alloc::{AllocError, Global};
@@ -122,15 +123,29 @@ impl VertexSubset {
         }
     }
 
-    /// The same vertices, dense.
+    /// The same vertices, dense. Takes the memory of the marks alone.
     pub fn dense_copy(&self) -> Result<VertexSubset, AllocError>
         ensures { IfOk result (λ copy.
             copy ≡ record { n = self.now.n; members = self.now.members; dense = true }) }
     {
-        let ids = self.ids()?;
-        let mut copy = VertexSubset::from_increasing(self.alloc, self.n, ids);
-        copy.to_dense()?;
-        Ok(copy)
+        let len = self.len();
+        let marks = self.member_marks()?;
+        Ok(VertexSubset {
+            alloc: self.alloc,
+            n: self.n,
+            kept: Kept::Dense { len, marks },
+        })
+    }
+
+    /// A mark for each vertex, set at the members.
+    fn member_marks(&self) -> Result<Vec<bool>, AllocError>
+        ensures len { IfOk result (λ marks. length marks.items ≡ self.now.n) }
+        ensures set { IfOk result (λ marks. marked marks.items ≡ self.now.members) }
+    {
+        match &self.kept {
+            Kept::Sparse(ids) => marks_at(self.alloc, self.n, ids.as_slice()),
+            Kept::Dense { len: _, marks } => Vec::from_slice(self.alloc, marks.as_slice()),
+        }
     }
 
     /// Keeps the same members as marks. After an error nothing is changed.

@@ -5,6 +5,7 @@ use Rattle.jul_words.specs.Stamps.{AllFirsts}
 use Rattle.jul_subset.proofs.IncreasingLaws.{length_below}
 use Rattle.jul_edge.specs.declared.functions.Direction.TheVariants.{Push}
 use Rattle.jul_edge.specs.EdgeMaps.{HasStamped}
+use Rattle.jul_subset.proofs.ApplicationLaws.{done_parts}
 use Rattle.jul_edge.proofs.StampLaws.{noted_in, has_stamped, is_mapped}
 use Rattle.jul_base.specs.Graph.{vertices}
 use Rattle.jul_edge.proofs.pushes.push_list.Goals as goal
@@ -35,10 +36,17 @@ from_unordered-requires-clause-within g c =
     subst (λ k. All (λ v. v < k) c.in_ok-token.noted.items) (sym c.n.ensures.count)
     (noted_in (g.F.EdgeFn.gives c.args.f.now) c.args.rows.now c.requires.lawful c.args.round c.args.members.now (g.F.EdgeFn.wanted c.args.f.now) _ _ _ _ _ c.in_ok-token.ensures.pushed)
 
-pub returns-clause-mapped : goal.returns-clause-mapped
-returns-clause-mapped g c =
+pub returns-clause-made : goal.returns-clause-made
+returns-clause-made g c =
+    let laws = g.met.F.Token.Share g.world.𝓛 g.world.𝓜 g.world.𝓡 ((λ s x. x), (λ x. x), (λ x. x), λ x. x) in
     let marks : AllFirsts c.in_ok-token.hand.seat.home c.in_ok-token.hand.seat.log = subst (λ (s : Seat). AllFirsts s.home s.log) c.learn.ensures.same c.learn.ensures.settled in
-    is_mapped (g.F.EdgeFn.gives c.args.f.now) c.args.rows.now c.requires.lawful c.args.round c.args.members.now (g.F.EdgeFn.wanted c.args.f.now) _ _ _ _ _ c.in_ok-token.ensures.pushed _ c.requires.stamps c.in_ok-token.ensures.seat_home marks c.in_ok-subset.subset (c.in_ok-subset.ensures.n ∙ c.n.ensures.count) c.in_ok-subset.ensures.sparse c.in_ok-subset.ensures.members
+    let mapped = is_mapped (g.F.EdgeFn.gives c.args.f.now) c.args.rows.now c.requires.lawful c.args.round c.args.members.now (g.F.EdgeFn.wanted c.args.f.now) _ _ _ _ _ c.in_ok-token.ensures.pushed _ c.requires.stamps c.in_ok-token.ensures.seat_home marks c.in_ok-subset.subset (c.in_ok-subset.ensures.n ∙ c.n.ensures.count) c.in_ok-subset.ensures.sparse c.in_ok-subset.ensures.members in record {
+      mapped = mapped;
+      parts = done_parts _ _ _ (laws.log_has_parts _) (laws.log_has_parts _) mapped.done mapped.applied.log_is;
+      root = c.in_ok-token.ensures.root.0;
+      none_out = c.in_ok-token.ensures.none_out.0;
+      home = c.in_ok-token.ensures.home;
+    }
 
 pub returns-clause-stamped : goal.returns-clause-stamped
 returns-clause-stamped g c =

@@ -11,7 +11,7 @@ rounds-init g c =
 pub mark_all-requires-clause-unmarked : goal.mark_all-requires-clause-unmarked
 mark_all-requires-clause-unmarked g c =
     hit_unmarked c.args.rows.now c.n.ensures.lawful c.args.source c.args.stamps.now c.rounds.reached.items _ _ c.rounds.frontier _ _ _ _ _ _ _ _ (λ a answer added given. given.0)
-    c.as_slice.ensures.value c.deref_mut.ensures.value (c.as_slice-in-rounds.ensures.value ∙ c.in_ok-ids.ensures) c.rounds.invariant c.in_ok-out.ensures.mapped
+    c.as_slice.ensures.value c.deref_mut.ensures.value (c.as_slice-in-rounds.ensures.value ∙ c.in_ok-ids.ensures) c.rounds.invariant c.in_ok-out.ensures.made.mapped
 
 pub rounds-preserved : goal.rounds-preserved
 rounds-preserved g c =
@@ -19,7 +19,7 @@ rounds-preserved g c =
     (sym (written c.mark_all.new.marks c.rounds.reached.items c.rounds.reached.len (omega (arith, c.mark_all.auto.marks, c.deref_mut.ensures.len))))
     (searched_on c.args.rows.now c.n.ensures.lawful c.args.source c.args.stamps.now c.rounds.reached.items _ _ _ c.rounds.frontier _ _ _ _ _ _ _ _ _ (λ a answer added given. given.0)
     c.as_slice.ensures.value c.deref_mut.ensures.value (c.as_slice-in-rounds.ensures.value ∙ c.in_ok-ids.ensures) c.mark_all.auto.marks
-    c.rounds.invariant (omega (arith, c.rounds-test.true, c.len.ensures)) c.in_ok-out.ensures.mapped c.in_ok-out.ensures.stamped
+    c.rounds.invariant (omega (arith, c.rounds-test.true, c.len.ensures)) c.in_ok-out.ensures.made.mapped c.in_ok-out.ensures.stamped
     (record { marked = c.mark_all.ensures.marked; fewer = c.mark_all.ensures.fewer }))
 
 pub returns-clause-exact : goal.returns-clause-exact

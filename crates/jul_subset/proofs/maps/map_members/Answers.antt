@@ -25,9 +25,10 @@ from_increasing-requires-clause-within g c =
 
 pub returns-clause-applied : goal.returns-clause-applied
 returns-clause-applied g c =
+    let laws = g.met.F.Token.Share g.world.𝓛 g.world.𝓜 g.world.𝓡 ((λ s x. x), (λ x. x), (λ x. x), λ x. x) in
     let gives = g.F.VertexFn.gives c.args.f.now in
     let old = g.F.Token.Share.log c.args.token in
     let new = g.F.Token.Share.log c.in_ok-done.done.token in
     let enough : length c.args.members.now ≤ c.div_ceil-chunks.result * c.args.team.now.chunk = rw c.div_ceil-chunks.ensures (div_ceil_times (length c.args.members.now) c.args.team.now.chunk c.args.team.now.some_members).0 in
     subst (AppliedOnce gives (λ v. v) c.args.members.now old new) (sym (ap (λ s. s.members) c.from_increasing.ensures.subset ∙ c.in_ok-hit.ensures))
-    (mapped_once gives c.args.members.now c.args.team.now.chunk c.div_ceil-chunks.result old new _ _ c.in_ok-done.ensures.each_once enough)
+    (mapped_once gives c.args.members.now c.args.team.now.chunk c.div_ceil-chunks.result old new _ _ c.in_ok-done.ensures.each_once enough _ (laws.log_has_parts _) (laws.log_has_parts _))

@@ -3,10 +3,7 @@ use Rattle.std.specs.Prelude.{min}
 use Rattle.jul_base.specs.Graph.{vertices}
 use Rattle.jul_base.specs.Numbers.{below}
 use Rattle.jul_subset.specs.Chunks.{chunk_of}
-use Rattle.jul_edge.specs.declared.functions.Direction.TheVariants.{Pull}
-use Rattle.jul_edge.specs.Pulls.{pulled_apps}
-use Rattle.jul_edge.proofs.PullLaws.{may_pull, chunk-below, chunk_in, pull_covers}
-use Rattle.jul_edge.proofs.PushLaws.{run_gives}
+use Rattle.jul_edge.proofs.PullLaws.{may_pull, chunk-below, chunk_in, pull_covers, pulled_chunk}
 use Rattle.jul_edge.proofs.pulls.PullJobJob.run.Goals as goal
 
 pub pull_targets-requires-clause-can : goal.pull_targets-requires-clause-can
@@ -25,5 +22,5 @@ returns-clause-gives g c =
     let vs = chunk_of (below (vertices rows)) j.size c.args.chunk in
     let end : c.min-last.result ≡ min (vertices rows) (c.args.chunk * j.size + j.size) = c.min-last.ensures ∙ ap (λ n. min n (c.args.chunk * j.size + j.size)) c.n-n.ensures.count in
     let cut = chunk-below (vertices rows) j.size c.args.chunk (c.args.chunk * j.size) c.min-last.result refl c.requires.0 end in
-    let r = run_gives Pull rows members wanted (g.F.EdgeFn.gives j.visit.f.now) (g.F.Token.Share.log) _ (pulled_apps rows edges members wanted vs) c.args.token.now c.pull_targets.new.state c.new-noted.result.items _ c.in_ok-pull_targets.ensures.pulled c.new-noted.ensures.items (ap (pulled_apps rows edges members wanted) cut) (pull_covers rows may.lawful edges may.flip members wanted vs (chunk_in (vertices rows) j.size c.args.chunk)).no_other in
+    let r = pulled_chunk rows edges members wanted (g.F.EdgeFn.gives j.visit.f.now) (g.F.Token.Share.log) _ vs c.args.token.now c.pull_targets.new.state c.new-noted.result.items _ c.in_ok-pull_targets.ensures.pulled c.new-noted.ensures.items cut (pull_covers rows may.lawful edges may.flip members wanted vs (chunk_in (vertices rows) j.size c.args.chunk)).no_other in
     record { added = r.0; gives_out = r.1; log_is = r.2 }
