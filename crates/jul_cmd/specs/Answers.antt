@@ -20,7 +20,7 @@ use Rattle.jul_check.specs.DistanceChecks.{distances_verdict}
 use Rattle.jul_check.specs.CoverChecks.{cover_verdict, HoldsEveryElement}
 use Rattle.jul_cmd.specs.declared.statuses.Status.{Status}
 use Rattle.jul_cmd.specs.declared.statuses.Status.TheVariants.{Done, No, GraphFault, WitnessFault as FaultOfWitness, SourceRange, SizeDiffers}
-use Rattle.jul_cmd.specs.Names.{reason_name}
+use Rattle.jul_check.specs.Names.{reason_name}
 use Rattle.jul_cmd.specs.Queries.{Work, distances, check, Asked}
 
 -- what the bytes of a graph file say: a graph, or their first fault

@@ -3,7 +3,8 @@ use Rattle.std.specs.Prelude.{ℕ, List, [], ◌++◌, codes, decimal}
 use Rattle.jul_cmd.specs.declared.statuses.Status.{Status}
 use Rattle.jul_cmd.specs.declared.statuses.Status.TheVariants.{Done, No, Usage, GraphFault, WitnessFault, SourceRange, SizeDiffers, ReadFault, WriteFault, Memory}
 use Rattle.jul_cmd.specs.declared.statuses.Which.TheVariants.{Graph, Witness}
-use Rattle.jul_cmd.specs.Names.{graph_kind_name, witness_kind_name}
+use Rattle.jul_adj.specs.Names.{kind_name as graph_kind_name}
+use Rattle.jul_witness.specs.Names.{kind_name as witness_kind_name}
 
 abbrev pub code_of : Status → ℕ
 code_of Done = 0

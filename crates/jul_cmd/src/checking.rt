@@ -3,13 +3,12 @@ ghost use Rattle.std.specs.Prelude.{◌≡◌, Ok, IfOk, IfErr};
 ghost use Rattle.jul_base.specs.Graph.{vertices};
 ghost use Rattle.jul_witness.specs.Lawful.{IsLawful};
 ghost use Rattle.jul_check.specs.declared.verdicts.Verdict.TheVariants.{Yes};
-ghost use Rattle.jul_cmd.specs.Names.{reason_name};
+ghost use Rattle.jul_check.specs.Names.{reason_name};
 ghost use Rattle.jul_cmd.specs.Answers.{size_of, judged, judged_file, IsBorneOut, verdict_status, verdict_text};
 ghost use Rattle.jul_cmd.specs.Parts.{Judges, HasJudged, IsUnjudged};
 
 use crate::lines::Line;
 use crate::loading::load_witness;
-use crate::names::name_of_reason;
 use crate::statuses::Status;
 use jul_base::Shelf;
 use jul_check::{Verdict, check_cores, check_cover, check_distances};
@@ -101,7 +100,7 @@ pub fn verdict_line(verdict: Verdict) -> Line
             let mut line = Line::of(b"no ");
             line.put_number(u64::from(vertex));
             line.put(b" ");
-            line.put(name_of_reason(reason));
+            line.put(reason.name().as_bytes());
             line.put(b"\n");
             line
         }

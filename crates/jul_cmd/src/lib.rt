@@ -8,7 +8,6 @@ mod checking;
 mod lines;
 mod loading;
 mod messages;
-mod names;
 mod queries;
 mod relaxation;
 mod replies;
