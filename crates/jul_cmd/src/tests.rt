@@ -48,7 +48,11 @@ fn trial_of<'a>(words: &'a [&'a str], files: &'a [(&'a str, &'a str)]) -> Trial<
     }
 }
 
-fn outcome_of<R: Threads>(rt: &R, alloc: Global, trial: &Trial<'_>) -> Result<Outcome, AllocError> {
+fn outcome_of<R: Threads + Sync>(
+    rt: &R,
+    alloc: Global,
+    trial: &Trial<'_>,
+) -> Result<Outcome, AllocError> {
     let mut words = Vec::new(alloc);
     for word in trial.words {
         words.push(String::from_str(alloc, word)?)?;
