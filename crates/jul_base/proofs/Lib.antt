@@ -7,6 +7,9 @@ pub mod MemoryLaws
 pub mod WalkLaws
 pub mod DistanceLaws
 pub mod TentativeLaws
+pub mod SourceLaws
+pub mod DistanceListLaws
+pub mod CappedLaws
 pub mod Rows
 pub mod LogLaws
 pub mod PartLaws

@@ -4,7 +4,7 @@ use Rattle.std.specs.List.{flat_map}
 use Rattle.std.specs.Result.{OnErr}
 use Rattle.std.proofs.lemmas.List.{append_assoc, append-nil, take_more, take_all, take-append-drop}
 use Rattle.std.proofs.lemmas.Grind.{flat_map-append}
-use Rattle.jul_base.specs.Sinks.{SinkState, Appended, FailedWriting, IsSent}
+use Rattle.jul_base.specs.Sinks.{SinkState, FailedWriting, IsSent}
 use Rattle.jul_base.proofs.SinkLaws.{IsSent-then, FailedWriting-then, FailedWriting-longer}
 
 -- what holds at the exit of a `?`

@@ -1,9 +1,12 @@
--- In-rows, counts and sets of small graphs, computed.
+-- In-rows, distances, counts and sets of small graphs, computed.
 use Rattle.std.specs.Prelude.{◌≡◌, true, false, [], ◌∷◌, refl}
 use Rattle.jul_base.specs.declared.graphs.RawGraph.{RawGraph}
 use Rattle.jul_base.specs.Graph.{count}
 use Rattle.jul_base.specs.InRows.{in_places}
 use Rattle.jul_base.specs.Sets.{set_of, sets_of}
+use Rattle.jul_base.specs.declared.limits.TheConstants.{NONE}
+use Rattle.jul_base.specs.Sources.{first_numbers}
+use Rattle.jul_base.specs.DistanceList.{relaxed_times}
 
 -- from 0 to 1 and 2, from 1 to 3, and from 2 to 1
 abbrev diamond : RawGraph
@@ -14,6 +17,17 @@ into_one = refl
 
 into_none : in_places diamond 0 ≡ []
 into_none = refl
+
+-- from 0 vertex 1 has 9 at first, then 7 by way of 2; vertex 3 has 14, then 12
+one_relaxation : relaxed_times diamond 1 (first_numbers 4 (0 ∷ [])) ≡ 0 ∷ 7 ∷ 1 ∷ 14 ∷ []
+one_relaxation = refl
+
+two_relaxations : relaxed_times diamond 2 (first_numbers 4 (0 ∷ [])) ≡ 0 ∷ 7 ∷ 1 ∷ 12 ∷ []
+two_relaxations = refl
+
+-- 3 is nearest to itself, and 0 has no walk to it from there
+from_three : relaxed_times diamond 2 (first_numbers 4 (2 ∷ 3 ∷ [])) ≡ NONE ∷ 6 ∷ 0 ∷ 0 ∷ []
+from_three = refl
 
 -- one edge, and none back
 abbrev one_way : RawGraph

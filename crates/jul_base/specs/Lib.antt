@@ -2,7 +2,9 @@ pub mod Numbers
 pub mod Graph
 pub mod Walks
 pub mod Distances
+pub mod Sources
 pub mod Tentative
+pub mod DistanceList
 pub mod Sinks
 pub mod Shelves
 pub mod Loading

@@ -4,7 +4,7 @@ ghost use Rattle.std.specs.Prelude.{◌≡◌, ℕ, ◌<◌, List, length, slice
 use std::alloc::Global;
 use std::marker::Model;
 
-/// A number for each vertex, as the distances from a source. `NONE` stands where there is no number.
+/// A number for each vertex, as the distances from some sources. `NONE` stands where there is no number.
 #[derive(Drop)]
 pub struct Column {
     items: Vec<u64>,

@@ -26,7 +26,7 @@ mod writing;
 pub use columns::{Column, Ids};
 pub use gates::{Gate, OpenGate};
 pub use graphs::RawGraph;
-pub use limits::{MAX_BYTES, MAX_M, MAX_N, MAX_W, NONE};
+pub use limits::{MAX_BYTES, MAX_M, MAX_N, MAX_SOURCES, MAX_W, NONE};
 pub use loading::{LoadError, load_all};
 pub use memory_shelves::MemShelf;
 pub use memory_sinks::MemSink;

@@ -12,5 +12,8 @@ pub const MAX_W: u32 = 4_294_967_295;
 /// The most bytes of a file.
 pub const MAX_BYTES: u64 = 4_294_967_296;
 
+/// The most sources that distances are taken from.
+pub const MAX_SOURCES: u32 = 1_024;
+
 /// What a column holds where there is no number, as the distance of an unreached vertex.
 pub const NONE: u64 = 18_446_744_073_709_551_615;

@@ -11,10 +11,10 @@ pub struct Cores {
     pub level: Column,
 }
 
-/// Distances from a source, with the tree that bears them out.
+/// Distances from a list of sources, each to the nearest, with the tree that bears them out.
 #[derive(Drop)]
 pub struct Distances {
-    /// Least sum of weights of a walk from the source, or `NONE`.
+    /// Least sum of weights of a walk from a source, or `NONE`.
     pub dist: Column,
     /// Least number of places of such a walk, or `NONE`.
     pub hops: Column,

@@ -1,9 +1,10 @@
--- What the checker tests of distances from a source. No sum wraps.
+-- What the checker tests of distances from a list of sources. No sum wraps.
 use Rattle.std.specs.Prelude.{ℕ, ◌+◌, ◌-◌, Bool, false, not, ◌&&◌, ◌||◌, List, [], ◌∷◌, slice_index, nat_lt, ◌==◌}
 use Rattle.std.specs.List.{list_any, range_with_len}
 use Rattle.jul_base.specs.declared.graphs.RawGraph.{RawGraph}
 use Rattle.jul_base.specs.declared.results.Distances.{Distances}
 use Rattle.jul_base.specs.Graph.{vertices, row_start, row_end, target, weight}
+use Rattle.jul_base.specs.Sets.{has}
 use Rattle.jul_check.specs.declared.verdicts.Reason.{Reason}
 use Rattle.jul_check.specs.declared.verdicts.Reason.TheVariants as reasons
 use Rattle.jul_check.specs.declared.verdicts.Verdict.{Verdict}
@@ -40,18 +41,23 @@ abbrev pub has_parent : RawGraph → Distances → ℕ → Bool
 has_parent g d v =
     not (is_none (slice_index d.hops v)) && not (is_none (slice_index d.parent v)) && is_parent g d v (slice_index d.parent v)
 
-abbrev pub fails_distances : RawGraph → ℕ → Distances → ℕ → Reason → Bool
-fails_distances g source d v reasons.Source =
-    (v == source) && not ((slice_index d.dist v == 0) && (slice_index d.hops v == 0) && is_none (slice_index d.parent v))
-fails_distances g source d v reasons.Lowerable = is_reached d v && is_lowerable g d.dist v
-fails_distances g source d v reasons.Parent = not (v == source) && is_reached d v && not (has_parent g d v)
-fails_distances g source d v reasons.Unreached =
-    not (v == source) && not (is_reached d v) && not (is_none (slice_index d.hops v) && is_none (slice_index d.parent v))
-fails_distances g source d v _ = false
+-- each line says where v fails a reason; is_source tells whether it is a source
+abbrev pub fails_as : RawGraph → Bool → Distances → ℕ → Reason → Bool
+fails_as g is_source d v reasons.Source =
+    is_source && not ((slice_index d.dist v == 0) && (slice_index d.hops v == 0) && is_none (slice_index d.parent v))
+fails_as g is_source d v reasons.Lowerable = is_reached d v && is_lowerable g d.dist v
+fails_as g is_source d v reasons.Parent = not is_source && is_reached d v && not (has_parent g d v)
+fails_as g is_source d v reasons.Unreached =
+    not is_source && not (is_reached d v) && not (is_none (slice_index d.hops v) && is_none (slice_index d.parent v))
+fails_as g is_source d v _ = false
+
+abbrev pub fails_distances : RawGraph → List ℕ → Distances → ℕ → Reason → Bool
+fails_distances g sources d v = fails_as g (has sources v) d v
 
 -- the reasons in the order in which they are tried
 abbrev pub distance_reasons : List Reason
 distance_reasons = reasons.Source ∷ reasons.Lowerable ∷ reasons.Parent ∷ reasons.Unreached ∷ []
 
-abbrev pub distances_verdict : RawGraph → ℕ → Distances → Verdict
-distances_verdict g source d = verdict_by (vertices g) distance_reasons (fails_distances g source d)
+-- the least vertex that fails, and its first reason
+abbrev pub distances_verdict : RawGraph → List ℕ → Distances → Verdict
+distances_verdict g sources d = verdict_by (vertices g) distance_reasons (fails_distances g sources d)

@@ -4,66 +4,75 @@
 //! first vertex that fails. No sum is made, so that none wraps: numbers are compared by what one is more than the other.
 ghost use Rattle.std.specs.Prelude.{◌≡◌, ◌+◌, ◌<◌, length, nat_lt, find, IfOk};
 ghost use Rattle.jul_base.specs.Graph.{vertices, IsLawful};
+ghost use Rattle.jul_base.specs.Sources.{AreSources};
+ghost use Rattle.jul_base.specs.Sets.{has};
 ghost use Rattle.jul_base.specs.Distances.{AreDistances};
 ghost use Rattle.jul_base.specs.Trees.{AreTree};
 ghost use Rattle.jul_check.specs.DistanceChecks.{is_lowerable, is_parent};
-ghost use Rattle.jul_check.specs.DistanceChecks.{fails_distances, distance_reasons, distances_verdict};
+ghost use Rattle.jul_check.specs.DistanceChecks.{fails_as, distance_reasons, distances_verdict};
 ghost use Rattle.jul_check.specs.Marks.{AreMarks};
 ghost use Rattle.jul_check.specs.TreeMarks.{parent_of};
 ghost use Rattle.jul_check.specs.declared.verdicts.Verdict.TheVariants.{Yes};
 
+use crate::source_walks::pass;
 use crate::tree_marks::mark_tree;
 use crate::verdicts::{Reason, Verdict};
 use jul_base::{Distances, NONE};
 use jul_rows::Rows;
 use std::alloc::{AllocError, Global};
 
-/// Whether the columns are distances from the source with hops and parents that bear them out, or the least vertex
-/// that shows they are not.
+/// Whether the columns are distances from the sources, each to the nearest, with hops and parents that bear them out, or
+/// the least vertex that shows they are not. `sources` is an increasing list of 1 to `MAX_SOURCES` vertices.
 ///
 /// A yes implies that each number of `dist` is the least distance of its vertex. Distances with the least hops and the
 /// least parents are accepted. Memory that runs out is the only refusal.
 pub fn check_distances(
     alloc: Global,
     rows: &Rows,
-    source: u32,
+    sources: &[u32],
     d: &Distances,
 ) -> Result<Verdict, AllocError>
-    requires source { source < vertices rows.now }
+    requires sources { AreSources (vertices rows.now) sources.now }
     requires dist { length d.now.dist ≡ vertices rows.now }
     requires hops { length d.now.hops ≡ vertices rows.now }
     requires parent { length d.now.parent ≡ vertices rows.now }
 
-    ensures verdict { IfOk result (λ verdict. verdict ≡ distances_verdict rows.now source d.now) }
-    ensures sound { IfOk result (λ verdict. verdict ≡ Yes → AreDistances rows.now source d.now.dist) }
+    ensures verdict { IfOk result (λ verdict. verdict ≡ distances_verdict rows.now sources.now d.now) }
+    ensures sound { IfOk result (λ verdict. verdict ≡ Yes → AreDistances rows.now sources.now d.now.dist) }
     ensures accepts { IfOk result (λ verdict.
-        AreTree rows.now source d.now.dist d.now.hops d.now.parent → verdict ≡ Yes) }
+        AreTree rows.now sources.now d.now.dist d.now.hops d.now.parent → verdict ≡ Yes) }
 {
     let marks = mark_tree(alloc, rows, d)?;
-    Ok(first_failing(rows, source, d, marks.as_slice()))
+    Ok(first_failing(rows, sources, d, marks.as_slice()))
 }
 
 /// The least vertex that fails and its first reason, where `marks` tells which parents bear their children out.
-fn first_failing(rows: &Rows, source: u32, d: &Distances, marks: &[bool]) -> Verdict
+fn first_failing(rows: &Rows, sources: &[u32], d: &Distances, marks: &[bool]) -> Verdict
+    requires sources { AreSources (vertices rows.now) sources.now }
     requires dist { length d.now.dist ≡ vertices rows.now }
     requires hops { length d.now.hops ≡ vertices rows.now }
     requires parent { length d.now.parent ≡ vertices rows.now }
     requires marks { AreMarks (vertices rows.now)
         (λ v. is_parent rows.now d.now v (parent_of d.now v)) marks.now }
 
-    ensures verdict { result ≡ distances_verdict rows.now source d.now }
+    ensures verdict { result ≡ distances_verdict rows.now sources.now d.now }
     ensures lawful { IsLawful rows.now }
 {
+    let mut passed = 0;
     for v in 0..rows.n() {
-        if let Some(reason) = first_reason(rows, source, d, v, marks[v as usize]) {
+        let now_passed = pass(sources, passed, v);
+        let is_source = passed < now_passed;
+        if let Some(reason) = first_reason(rows, is_source, d, v, marks[v as usize]) {
             return Verdict::No { vertex: v, reason };
         }
+        passed = now_passed;
     }
     Verdict::Yes
 }
 
-/// The first reason that `v` fails, where `mark` tells whether its parent bears it out.
-fn first_reason(rows: &Rows, source: u32, d: &Distances, v: u32, mark: bool) -> Option<Reason>
+/// The first reason that `v` fails, where `is_source` tells whether it is a source, and `mark` whether its parent bears it
+/// out.
+fn first_reason(rows: &Rows, is_source: bool, d: &Distances, v: u32, mark: bool) -> Option<Reason>
     requires lawful { IsLawful rows.now }
     requires vertex { v < vertices rows.now }
     requires dist { length d.now.dist ≡ vertices rows.now }
@@ -71,10 +80,9 @@ fn first_reason(rows: &Rows, source: u32, d: &Distances, v: u32, mark: bool) -> 
     requires parent { length d.now.parent ≡ vertices rows.now }
     requires mark { mark ≡ is_parent rows.now d.now v (parent_of d.now v) }
 
-    ensures { result ≡ find (fails_distances rows.now source d.now v) distance_reasons }
+    ensures { result ≡ find (fails_as rows.now is_source d.now v) distance_reasons }
 {
     let at = v as usize;
-    let is_source = v == source;
     let (dist, hops, parent) = (d.dist.get(at), d.hops.get(at), d.parent.get(at));
     if is_source && !(dist == 0 && hops == 0 && parent == NONE) {
         return Some(Reason::Source);

@@ -10,6 +10,7 @@ mod core_order;
 mod cover_checks;
 mod cover_marks;
 mod distance_checks;
+mod source_walks;
 mod tree_marks;
 mod verdicts;
 

@@ -13,7 +13,7 @@ pub enum Reason {
     UpperBound,
     /// Cores: some vertex before it has a greater core.
     Order,
-    /// Distances: it is the source, and its columns aren't 0, 0 and none.
+    /// Distances: it is a source, and its columns aren't 0, 0 and none.
     Source,
     /// Distances: a place of its row would lower the distance of its target.
     Lowerable,

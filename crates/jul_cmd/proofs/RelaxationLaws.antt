@@ -9,10 +9,12 @@ use Rattle.jul_base.specs.declared.graphs.RawGraph.{RawGraph}
 use Rattle.jul_base.specs.declared.limits.TheConstants.{NONE}
 use Rattle.jul_base.specs.Graph.{vertices, row_start, row_end, target, weight, IsPlaceOf, IsLawful}
 use Rattle.jul_base.specs.Distances.{IsClosedAt, AreDistances}
-use Rattle.jul_base.specs.Tentative.{first_column}
+use Rattle.jul_base.specs.Sources.{first_numbers}
+use Rattle.jul_base.specs.Tentative.{IsTentative}
 use Rattle.jul_base.proofs.GraphLaws.{place_in_range, target_in_range, weight-le}
 use Rattle.jul_base.proofs.DistanceLaws.{closed_are_distances}
-use Rattle.jul_base.proofs.TentativeLaws.{Lowers, lowered, lower_bounded, lower_search, first_bounded, first_search, small}
+use Rattle.jul_base.proofs.SourceLaws.{Contains-one, Contains-one-is, first_is}
+use Rattle.jul_base.proofs.TentativeLaws.{Lowers, lowered, lower_tentative, first_tentative, small}
 use Rattle.jul_cmd.specs.Relaxation.{State, dist_of, flag_of, IsSearching, IsSettled, AllSettled, Waits, GoesOn}
 
 -- states of the same parts
@@ -37,8 +39,7 @@ waiting_too_kept : (s : State) (v : ℕ) → IsSearching s → v < vertices s.gr
 waiting_too_kept s v h lt some = record {
   lawful = h.lawful;
   source = h.source;
-  bounded = h.bounded;
-  search = h.search;
+  tentative = h.tentative;
   size = length-set s.flags v true ∙ h.size;
   waiting = All-push (λ x. x < vertices s.graph) s.waiting v h.waiting lt;
   reached = All-push (λ x. dist_of s x ≢ NONE) s.waiting v h.reached some;
@@ -63,13 +64,13 @@ module _ (s : State) (h : IsSearching s) (u p : ℕ) (at : IsPlaceOf s.graph u p
   lowers = record { at = at; some = some; light = weight-le s.graph h.lawful p; lower = lower }
 
   in_list : target s.graph p < length s.dist
-  in_list = omega (arith, target_in_range s.graph h.lawful p (place_in_range s.graph h.lawful u p at), h.bounded.size)
+  in_list = omega (arith, target_in_range s.graph h.lawful p (place_in_range s.graph h.lawful u p at), h.tentative.bounded.size)
 
   here : get_or (lowered s.graph s.dist u p) (target s.graph p) 0 ≡ dist_of s u + weight s.graph p
   here = get_or-set_same s.dist (target s.graph p) (dist_of s u + weight s.graph p) 0 in_list
 
   some_here : dist_of s u + weight s.graph p ≢ NONE
-  some_here e = absurd (omega (arith, e, small s.graph h.lawful s.dist h.bounded u at.vertex some, weight-le s.graph h.lawful p))
+  some_here e = absurd (omega (arith, e, small s.graph h.lawful s.dist h.tentative.bounded u at.vertex some, weight-le s.graph h.lawful p))
 
   still : (v : ℕ) → dist_of s v ≢ NONE → get_or (lowered s.graph s.dist u p) v 0 ≢ NONE
   still v was = elim (cases_eq v (target s.graph p)) [
@@ -81,8 +82,7 @@ module _ (s : State) (h : IsSearching s) (u p : ℕ) (at : IsPlaceOf s.graph u p
   lower_state = record {
     lawful = h.lawful;
     source = h.source;
-    bounded = lower_bounded s.graph h.lawful s.dist h.bounded u p lowers;
-    search = lower_search s.graph h.lawful s.dist h.bounded u p lowers s.source h.search;
+    tentative = lower_tentative s.graph h.lawful (s.source ∷ []) s.dist h.tentative u p lowers;
     size = h.size;
     waiting = h.waiting;
     reached = All-weaker (λ v. dist_of s v ≢ NONE) (λ v. get_or (lowered s.graph s.dist u p) v 0 ≢ NONE) still s.waiting h.reached;
@@ -150,10 +150,27 @@ closed_kept s t v p h on same at closed =
     let was : dist_of s v ≢ NONE = λ none. some (same ∙ none) in
     let low : get_or s.dist (target s.graph p) 0 ≤ get_or s.dist v 0 + weight s.graph p = (closed was).1 in
     let next : dist_of t (target s.graph p) ≤ dist_of s (target s.graph p) = on.lower (target s.graph p) in
-    let bound : dist_of s v < 2 ^ 56 = small s.graph h.lawful s.dist h.bounded v at.vertex was in
+    let bound : dist_of s v < 2 ^ 56 = small s.graph h.lawful s.dist h.tentative.bounded v at.vertex was in
     (λ none. absurd (omega (arith, none, next, low, bound, weight-le s.graph h.lawful p)), omega (arith, next, low, same)))
 
 -- ---- the start
+
+-- the source has 0, and no other vertex has a number
+abbrev pub first_column : ℕ → ℕ → List ℕ
+first_column n source = set (replicate n NONE) source 0
+
+module _ (n source : ℕ) (lt : source < n) where
+  at_source : get_or (first_column n source) source 0 ≡ 0
+  at_source = get_or-set_same (replicate n NONE) source 0 0 (omega (arith, length-replicate n NONE, lt))
+
+  first_column-is : first_column n source ≡ first_numbers n (source ∷ [])
+  first_column-is =
+      first_is n (source ∷ []) (first_column n source) (length-set (replicate n NONE) source 0 ∙ length-replicate n NONE) (λ v v_lt. (
+        λ there. ap (λ k. get_or (first_column n source) k 0) (Contains-one-is source v there) ∙ at_source,
+        λ other.
+            let apart : v ≢ source = λ e. other (subst (Contains (source ∷ [])) (sym e) (Contains-one source)) in
+            get_or-set_other (replicate n NONE) source v 0 0 apart ∙ get_or-replicate n v NONE 0 v_lt,
+      ))
 
 first_flags : (n source v : ℕ) → v < n → get_or (set (replicate n false) source true) v false ≡ true → v ≡ source
 first_flags n source v lt is = elim (cases_eq v source) [
@@ -182,13 +199,14 @@ first_searching : (g : RawGraph) (source : ℕ) → IsLawful g → source < vert
 first_searching g source lawful lt = record {
   lawful = lawful;
   source = lt;
-  bounded = first_bounded g source lt;
-  search = first_search g source lt;
+  tentative = subst (IsTentative g (source ∷ [])) (sym (first_column-is (vertices g) source lt)) (first_tentative g (source ∷ []) within);
   size = length-set (replicate (vertices g) false) source true ∙ length-replicate (vertices g) false;
-  waiting = All-cons (λ v. v < vertices g) source [] lt (All-nil (λ v. v < vertices g));
-  reached = All-cons (λ v. dist_of (first_state g source) v ≢ NONE) source [] (λ none. absurd (omega (arith, none, (first_search g source lt).start))) (All-nil (λ v. dist_of (first_state g source) v ≢ NONE));
-  flagged = λ v is. subst (Contains (source ∷ [])) (sym (is_source g source v is)) (Contains-push [] source);
-}
+  waiting = within;
+  reached = All-cons (λ v. dist_of (first_state g source) v ≢ NONE) source [] (λ none. absurd (omega (arith, none, at_source (vertices g) source lt))) (All-nil (λ v. dist_of (first_state g source) v ≢ NONE));
+  flagged = λ v is. subst (Contains (source ∷ [])) (sym (is_source g source v is)) (Contains-one source);
+} where
+  within : All (λ v. v < vertices g) (source ∷ [])
+  within = All-cons (λ v. v < vertices g) source [] lt (All-nil (λ v. v < vertices g))
 
 first_settled : (g : RawGraph) (source : ℕ) → source < vertices g → AllSettled (first_state g source)
 first_settled g source lt v is = record {
@@ -239,8 +257,7 @@ pop_kept s t u h p =
     let kept : IsSearching after = record {
       lawful = h.lawful;
       source = h.source;
-      bounded = h.bounded;
-      search = h.search;
+      tentative = h.tentative;
       size = length-set s.flags u false ∙ h.size;
       waiting = All-tail (λ x. x < vertices s.graph) u t.waiting (subst (All (λ x. x < vertices s.graph)) p.waiting h.waiting);
       reached = All-tail (λ x. dist_of s x ≢ NONE) u t.waiting (subst (All (λ x. dist_of s x ≢ NONE)) p.waiting h.reached);
@@ -282,9 +299,9 @@ row_settled s u start count start_is end_is closed = record {
 }
 
 -- nothing waits
-pub all_closed : (s : State) → IsSearching s → AllSettled s → s.waiting ≡ [] → AreDistances s.graph s.source s.dist
+pub all_closed : (s : State) → IsSearching s → AllSettled s → s.waiting ≡ [] → AreDistances s.graph (s.source ∷ []) s.dist
 all_closed s h all none =
-    closed_are_distances s.graph s.source s.dist h.bounded.size h.search.start (λ u p at. (all u (not_waiting u)).closed p at) h.search.sums where
+    closed_are_distances s.graph (s.source ∷ []) s.dist h.tentative.bounded.size h.tentative.starts (λ u p at. (all u (not_waiting u)).closed p at) h.tentative.sums where
       not_waiting : (u : ℕ) → flag_of s u ≡ false
       not_waiting u = elim (cases_Bool (flag_of s u)) [
         | inl is ↦ absurd (none_is_there u (subst (λ xs. Contains xs u) none (h.flagged u is)))
@@ -294,8 +311,8 @@ all_closed s h all none =
         none_is_there u (k, lt, is) = absurd (omega (arith, lt))
 
 pub found_distances : (s : State) (g : RawGraph) (source : ℕ) (column : List ℕ) → IsSearching s → AllSettled s → s.waiting ≡ [] → s.graph ≡ g → s.source ≡ source → column ≡ s.dist →
-    AreDistances g source column
+    AreDistances g (source ∷ []) column
 found_distances s g source column h all none graph_is source_is column_is =
-    subst (λ r. AreDistances r source column) graph_is
-    (subst (λ v. AreDistances s.graph v column) source_is
-    (subst (AreDistances s.graph s.source) (sym column_is) (all_closed s h all none)))
+    subst (λ r. AreDistances r (source ∷ []) column) graph_is
+    (subst (λ v. AreDistances s.graph (v ∷ []) column) source_is
+    (subst (AreDistances s.graph (s.source ∷ [])) (sym column_is) (all_closed s h all none)))

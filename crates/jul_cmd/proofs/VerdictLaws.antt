@@ -17,7 +17,7 @@ use Rattle.jul_check.specs.DistanceChecks.{distances_verdict}
 use Rattle.jul_check.specs.CoverChecks.{cover_verdict}
 use Rattle.jul_cmd.specs.declared.statuses.Status.{Status}
 use Rattle.jul_cmd.specs.declared.statuses.Status.TheVariants.{SizeDiffers}
-use Rattle.jul_cmd.specs.Solving.{only, refusal_of_sources}
+use Rattle.jul_cmd.specs.Solving.{refusal_of_sources}
 use Rattle.jul_cmd.specs.Checking.{size_of, unless, judged, judged_file}
 use Rattle.jul_cmd.specs.Statuses.{stage_of}
 use Rattle.jul_cmd.specs.Parts.{Judges}
@@ -58,14 +58,14 @@ unfolding judged
 judged-cover g sources w c e = ap (judged g sources) e
 
 pub judged-distances : (g : RawGraph) (sources : List ℕ) (w : Witness) (d : Distances) → w ≡ witnesses.Distances d → refusal_of_sources (vertices g) sources ≡ None →
-    judged g sources w ≡ Ok (distances_verdict g (only sources) d)
+    judged g sources w ≡ Ok (distances_verdict g sources d)
 unfolding judged
-judged-distances g sources w d e inside = ap (judged g sources) e ∙ ap (λ r. unless r (distances_verdict g (only sources) d)) inside
+judged-distances g sources w d e inside = ap (judged g sources) e ∙ ap (λ r. unless r (distances_verdict g sources d)) inside
 
 pub judged-outside : (g : RawGraph) (sources : List ℕ) (w : Witness) (d : Distances) (status : Status) → w ≡ witnesses.Distances d → refusal_of_sources (vertices g) sources ≡ Some status →
     judged g sources w ≡ Err status
 unfolding judged
-judged-outside g sources w d status e outside = ap (judged g sources) e ∙ ap (λ r. unless r (distances_verdict g (only sources) d)) outside
+judged-outside g sources w d status e outside = ap (judged g sources) e ∙ ap (λ r. unless r (distances_verdict g sources d)) outside
 
 -- a source that is no vertex is the refusal
 pub judges_outside : (g : RawGraph) (sources : List ℕ) (n : ℕ) (w : Witness) (d : Distances) (status : Status) → w ≡ witnesses.Distances d → n ≡ vertices g → refusal_of_sources n sources ≡ Some status →

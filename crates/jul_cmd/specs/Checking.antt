@@ -17,7 +17,7 @@ use Rattle.jul_check.specs.CoverChecks.{cover_verdict, HoldsEveryElement}
 use Rattle.jul_cmd.specs.declared.statuses.Status.{Status}
 use Rattle.jul_cmd.specs.declared.statuses.Status.TheVariants.{Done, No, WitnessFault as FaultOfWitness, SizeDiffers}
 use Rattle.jul_cmd.specs.Files.{witness_of_file, Says}
-use Rattle.jul_cmd.specs.Solving.{only, refusal_of_sources}
+use Rattle.jul_cmd.specs.Solving.{refusal_of_sources}
 
 -- the number of vertices of a witness
 abbrev pub size_of : Witness → ℕ
@@ -32,7 +32,7 @@ unless (Some refusal) verdict = Err refusal
 -- the verdict on a witness of the graph's size; only distances need the sources
 unfoldable pub judged : RawGraph → List ℕ → Witness → Result Verdict Status
 judged g sources (Cores c) = Ok (cores_verdict g c)
-judged g sources (Distances d) = unless (refusal_of_sources (vertices g) sources) (distances_verdict g (only sources) d)
+judged g sources (Distances d) = unless (refusal_of_sources (vertices g) sources) (distances_verdict g sources d)
 judged g sources (Cover c) = Ok (cover_verdict g c)
 
 -- the verdict on what a witness file says, or why there is none: its fault, another size, a source
@@ -57,7 +57,7 @@ IsTold (Err refusal) status text = (status ≡ refusal) × (text ≡ [])
 -- what a yes implies of the graph, whoever wrote the witness
 abbrev pub IsBorneOut : RawGraph → List ℕ → Result Witness WitnessFault → Type 0
 IsBorneOut g sources (Ok (Cores c)) = (v : ℕ) → v < vertices g → IsCoreness g v (slice_index c.core v)
-IsBorneOut g sources (Ok (Distances d)) = AreDistances g (only sources) d.dist
+IsBorneOut g sources (Ok (Distances d)) = AreDistances g sources d.dist
 IsBorneOut g sources (Ok (Cover c)) = HoldsEveryElement g c.round
 IsBorneOut g sources (Err fault) = ⊥
 

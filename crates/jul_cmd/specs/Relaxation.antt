@@ -1,10 +1,10 @@
 -- The state of a search from a source, and what the relaxation of places changes.
-use Rattle.std.specs.Prelude.{◌≡◌, ◌≢◌, ℕ, ◌+◌, ◌*◌, ◌<◌, ◌≤◌, Bool, true, false, List, length, slice_index, slice_index_or, sum, All, Contains}
+use Rattle.std.specs.Prelude.{◌≡◌, ◌≢◌, ℕ, ◌+◌, ◌*◌, ◌<◌, ◌≤◌, Bool, true, false, List, [], ◌∷◌, length, slice_index, slice_index_or, sum, All, Contains}
 use Rattle.jul_base.specs.declared.graphs.RawGraph.{RawGraph}
 use Rattle.jul_base.specs.declared.limits.TheConstants.{NONE}
 use Rattle.jul_base.specs.Graph.{vertices, IsPlaceOf, IsLawful}
 use Rattle.jul_base.specs.Distances.{IsClosedAt}
-use Rattle.jul_base.specs.Tentative.{IsBounded, IsSearch}
+use Rattle.jul_base.specs.Tentative.{IsTentative}
 use Rattle.jul_cmd.specs.declared.relaxation.Search.{Search}
 
 -- the tentative distances, the vertices that wait to have their places relaxed, and for each vertex whether it waits
@@ -28,8 +28,7 @@ flag_of s v = slice_index_or s.flags v false
 pub record IsSearching (s : State) : Type 0 where
   pub lawful : IsLawful s.graph
   pub source : s.source < vertices s.graph
-  pub bounded : IsBounded s.graph s.dist
-  pub search : IsSearch s.graph s.source s.dist
+  pub tentative : IsTentative s.graph (s.source ∷ []) s.dist
   pub size : length s.flags ≡ vertices s.graph
   pub waiting : All (λ v. v < vertices s.graph) s.waiting
   pub reached : All (λ v. dist_of s v ≢ NONE) s.waiting

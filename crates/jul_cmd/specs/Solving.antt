@@ -8,11 +8,6 @@ use Rattle.jul_cmd.specs.declared.statuses.Status.{Status}
 use Rattle.jul_cmd.specs.declared.statuses.Status.TheVariants.{Done, SourceRange}
 use Rattle.jul_cmd.specs.Queries.{Problem, distances, Form, bare}
 
--- interim
-abbrev pub only : List ℕ → ℕ
-only [] = 0
-only (s ∷ ss) = s
-
 -- the refusal of the first source that isn't below n, if there is one
 abbrev pub refusal_of_sources : ℕ → List ℕ → Option Status
 refusal_of_sources n [] = None
@@ -26,12 +21,12 @@ abbrev pub IsSuited : RawGraph → Problem → Type 0
 IsSuited g problem = (status : Status) → IsUnsuited g problem status → ⊥
 
 -- the column has for each vertex what the problem asks
-abbrev pub IsColumn : RawGraph → Problem → List ℕ → Type 0
-IsColumn g (distances sources) column = AreDistances g (only sources) column
+abbrev pub AreValues : RawGraph → Problem → List ℕ → Type 0
+AreValues g (distances sources) column = AreDistances g sources column
 
 -- the text has what the problem asks, in the form
 abbrev pub IsText : RawGraph → Problem → Form → List ℕ → Type 0
-IsText g problem bare text = (column : List ℕ) × IsColumn g problem column × (text ≡ bare_text column)
+IsText g problem bare text = (column : List ℕ) × AreValues g problem column × (text ≡ bare_text column)
 
 -- the problem was solved
 pub record IsDone (g : RawGraph) (problem : Problem) (form : Form) (status : Status) (text : List ℕ) : Type 0 where

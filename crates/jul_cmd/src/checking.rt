@@ -47,7 +47,7 @@ fn judge_columns(
         Witness::Cores(c) => check_cores(alloc, rows, c),
         Witness::Distances(d) => {
             check_sources(&[source], rows.n())?;
-            check_distances(alloc, rows, source, d)
+            check_distances(alloc, rows, &[source], d)
         }
         Witness::Cover(c) => check_cover(alloc, rows, c),
     };

@@ -1,7 +1,7 @@
 //! The tasks `wbfs` and `delta`: least distances from a source.
 ghost use Rattle.std.specs.Prelude.{IfOk, IfErr, OnOk, [], ◌∷◌};
 ghost use Rattle.jul_cmd.specs.Queries.{distances};
-ghost use Rattle.jul_cmd.specs.Solving.{IsSuited, IsColumn};
+ghost use Rattle.jul_cmd.specs.Solving.{IsSuited, AreValues};
 ghost use Rattle.jul_cmd.specs.Parts.{IsUnsolved};
 
 use crate::relaxation::least_distances;
@@ -21,7 +21,7 @@ pub fn find_distances<R: Threads + Sync, G: Gate>(
     _delta: u32,
 ) -> Result<Column, Status>
     ensures suited { OnOk result (IsSuited rows.now (distances (source ∷ []))) }
-    ensures found { IfOk result (IsColumn rows.now (distances (source ∷ []))) }
+    ensures found { IfOk result (AreValues rows.now (distances (source ∷ []))) }
     ensures refused { IfErr result (IsUnsolved rows.now (distances (source ∷ []))) }
 {
     check_sources(&[source], rows.n())?;

@@ -1,7 +1,7 @@
 //! Least distances from a source on one thread: a list of vertices that wait to have their places relaxed.
 //!
 //! It is the label-correcting search of Bellman and Ford with a queue, over the touched vertices alone.
-ghost use Rattle.std.specs.Prelude.{◌≡◌, ◌≢◌, ℕ, ◌<◌, List, [], IsTrue, IsFalse, IfOk, OnOk};
+ghost use Rattle.std.specs.Prelude.{◌≡◌, ◌≢◌, ℕ, ◌<◌, List, [], ◌∷◌, IsTrue, IsFalse, IfOk, OnOk};
 ghost use Rattle.jul_base.specs.declared.limits.TheConstants.{NONE};
 ghost use Rattle.jul_base.specs.Graph.{vertices, target, IsPlaceOf};
 ghost use Rattle.jul_base.specs.Distances.{AreDistances, IsClosedAt};
@@ -123,7 +123,7 @@ impl<'a> Search<'a> {
 /// The least distances from a source, and `NONE` for an unreached vertex.
 pub fn least_distances(alloc: Global, rows: &Rows, source: u32) -> Result<Column, AllocError>
     requires { source < vertices rows.now }
-    ensures { IfOk result (λ dist. AreDistances rows.now source dist) }
+    ensures { IfOk result (λ dist. AreDistances rows.now (source ∷ []) dist) }
 {
     let mut search = Search::start(alloc, rows, source)?;
     while search.step()? {}

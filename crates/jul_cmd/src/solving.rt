@@ -1,7 +1,7 @@
 //! The tasks that solve a problem: a module each, which finds the columns of a result.
 ghost use Rattle.std.specs.Prelude.{IfOk, IfErr, OnOk};
 ghost use Rattle.jul_cmd.specs.Asking.{problem_of, form_of};
-ghost use Rattle.jul_cmd.specs.Solving.{IsSuited, IsColumn, IsDone};
+ghost use Rattle.jul_cmd.specs.Solving.{IsSuited, AreValues, IsDone};
 ghost use Rattle.jul_cmd.specs.Parts.{text_of, IsUnsolved};
 
 use crate::distances::find_distances;
@@ -20,7 +20,7 @@ fn find_column<R: Threads + Sync, G: Gate>(
     problem: Problem,
 ) -> Result<Column, Status>
     ensures suited { OnOk result (IsSuited rows.now (problem_of problem)) }
-    ensures found { IfOk result (IsColumn rows.now (problem_of problem)) }
+    ensures found { IfOk result (AreValues rows.now (problem_of problem)) }
     ensures refused { IfErr result (IsUnsolved rows.now (problem_of problem)) }
 {
     match problem {

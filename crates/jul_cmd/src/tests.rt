@@ -104,6 +104,18 @@ fn least_distances_are_written(rt: HostRuntime) -> Result<(), Fail> {
 }
 
 #[test]
+fn a_width_of_buckets_changes_no_distance(rt: HostRuntime) -> Result<(), Fail> {
+    for delta in ["1", "3", "4294967295"] {
+        let words = ["delta", "--bare", "--source", "0", "--delta", delta, "g"];
+        let outcome = outcome_of(&rt, rt.alloc(), &trial_of(&words, &[("g", TWO_WAYS)]))?;
+        assert_eq!(rt; outcome.status, Status::Done, "{delta}");
+        assert_eq!(rt; outcome.out.as_slice(), b"0\n3\n1\n".as_slice(), "{delta}");
+        assert_eq!(rt; outcome.err.len(), 0, "{delta}");
+    }
+    Ok(())
+}
+
+#[test]
 fn witnesses_are_judged(rt: HostRuntime) -> Result<(), Fail> {
     for (source, graph, witness, code, text) in [
         ("0", TRIANGLE, "Cores\n4\n2 1\n2 1\n2 1\n1 0\n", 0, "yes\n"),
@@ -237,6 +249,10 @@ fn other_words_are_not_taken(rt: HostRuntime) -> Result<(), Fail> {
         ["check", "g", "--source"].as_slice(),
         ["check", "--source", "0", "g", "w"].as_slice(),
         ["wbfs", "--bare", "--source", "4294967296", "g"].as_slice(),
+        ["wbfs", "--bare", "--source", "0", "g", "w"].as_slice(),
+        ["delta", "--bare", "--source", "0", "--delta", "0", "g"].as_slice(),
+        ["delta", "--bare", "--delta", "1", "--source", "0", "g"].as_slice(),
+        ["delta", "--bare", "--source", "0", "g"].as_slice(),
     ] {
         let outcome = outcome_of(&rt, rt.alloc(), &trial_of(words, &[("g", TWO_WAYS)]))?;
         assert_eq!(rt; outcome.status, Status::Usage);

@@ -1,4 +1,7 @@
 //! Verdicts on columns that were worked out by hand.
+ghost use Rattle.std.specs.Prelude.{IsTrue};
+ghost use Rattle.jul_base.specs.Graph.{vertices};
+ghost use Rattle.jul_base.specs.Sources.{AreSources};
 
 use crate::distance_checks::check_distances;
 use crate::test_graphs::rows_of;
@@ -9,16 +12,16 @@ use std::alloc::Global;
 use std::process::Abort;
 use std::test::Fail;
 
-/// The verdict on distance, hops and parent of each vertex.
+/// The verdict on distance, hops and parent of each vertex. The sources are two at most.
 fn verdict_on(
     rt: &impl Abort,
     alloc: Global,
     rows: &Rows,
-    source: u32,
+    sources: &[u32],
     lines: &[[u64; 3]],
 ) -> Result<Verdict, Fail> {
     assert_eq!(rt; lines.len(), rows.n() as usize);
-    assert!(rt; source < rows.n());
+    assert!(rt; are_few_sources(rows, sources));
     let dist: Vec<u64> = lines.iter().map(|line| line[0]).collect(alloc)?;
     let hops: Vec<u64> = lines.iter().map(|line| line[1]).collect(alloc)?;
     let parent: Vec<u64> = lines.iter().map(|line| line[2]).collect(alloc)?;
@@ -27,7 +30,18 @@ fn verdict_on(
         hops: Column::from_vec(hops),
         parent: Column::from_vec(parent),
     };
-    Ok(check_distances(alloc, rows, source, &d)?)
+    Ok(check_distances(alloc, rows, sources, &d)?)
+}
+
+/// Whether the list is of one vertex, or of two in increasing order.
+fn are_few_sources(rows: &Rows, sources: &[u32]) -> bool
+    ensures { IsTrue result → AreSources (vertices rows.now) sources.now }
+{
+    match sources {
+        [only] => *only < rows.n(),
+        [first, second] => *first < *second && *second < rows.n(),
+        _ => false,
+    }
 }
 
 fn no(vertex: u32, reason: Reason) -> Verdict {
@@ -59,7 +73,7 @@ fn an_edge_and_a_vertex_apart(rt: HostRuntime) -> Result<(), Fail> {
         ([[0, 1, NONE], apart, apart], no(0, Reason::Source)),
     ];
     for (lines, wanted) in cases {
-        assert_eq!(rt; verdict_on(&rt, alloc, &rows, 0, &lines)?, wanted);
+        assert_eq!(rt; verdict_on(&rt, alloc, &rows, &[0], &lines)?, wanted);
     }
     Ok(())
 }
@@ -70,10 +84,10 @@ fn the_longer_edge_is_no_distance(rt: HostRuntime) -> Result<(), Fail> {
     let alloc = rt.alloc();
     let rows = rows_of(&rt, alloc, [&[0, 2, 2], &[1, 2, 1], &[5, 1, 2]])?;
     let right = [[0, 0, NONE], [3, 2, 2], [1, 1, 0]];
-    assert_eq!(rt; verdict_on(&rt, alloc, &rows, 0, &right)?, Verdict::Yes);
+    assert_eq!(rt; verdict_on(&rt, alloc, &rows, &[0], &right)?, Verdict::Yes);
     let long = [[0, 0, NONE], [5, 1, 0], [1, 1, 0]];
     assert_eq!(rt;
-        verdict_on(&rt, alloc, &rows, 0, &long)?,
+        verdict_on(&rt, alloc, &rows, &[0], &long)?,
         no(2, Reason::Lowerable)
     );
     Ok(())
@@ -86,7 +100,7 @@ fn parents_in_a_circle_bear_nothing_out(rt: HostRuntime) -> Result<(), Fail> {
     let rows = rows_of(&rt, alloc, [&[0, 1, 2], &[1, 2, 1], &[5, 0, 0]])?;
     let lines = [[0, 0, NONE], [3, 1, 2], [3, 2, 1]];
     assert_eq!(rt;
-        verdict_on(&rt, alloc, &rows, 0, &lines)?,
+        verdict_on(&rt, alloc, &rows, &[0], &lines)?,
         no(1, Reason::Parent)
     );
     Ok(())
@@ -100,7 +114,7 @@ fn the_greatest_numbers_do_not_wrap(rt: HostRuntime) -> Result<(), Fail> {
     let far = 18_446_744_073_709_551_614;
     let lines = [[far, 1, 2], [far, 1, 2], [0, 0, NONE]];
     assert_eq!(rt;
-        verdict_on(&rt, alloc, &rows, 2, &lines)?,
+        verdict_on(&rt, alloc, &rows, &[2], &lines)?,
         no(0, Reason::Parent)
     );
     Ok(())
@@ -112,6 +126,25 @@ fn any_place_of_the_parent_may_be_the_last(rt: HostRuntime) -> Result<(), Fail> 
     let alloc = rt.alloc();
     let rows = rows_of(&rt, alloc, [&[0, 2], &[1, 1], &[7, 4]])?;
     let lines = [[0, 0, NONE], [4, 1, 0]];
-    assert_eq!(rt; verdict_on(&rt, alloc, &rows, 0, &lines)?, Verdict::Yes);
+    assert_eq!(rt; verdict_on(&rt, alloc, &rows, &[0], &lines)?, Verdict::Yes);
+    Ok(())
+}
+
+/// Vertex 1 is nearer to source 2 than to source 0, and both sources have distance 0.
+#[test]
+fn distances_are_to_the_nearest_source(rt: HostRuntime) -> Result<(), Fail> {
+    let alloc = rt.alloc();
+    let rows = rows_of(&rt, alloc, [&[0, 2, 2], &[1, 2, 1], &[5, 1, 2]])?;
+    let [source, by_two] = [[0, 0, NONE], [2, 1, 2]];
+    let cases: [([[u64; 3]; 3], Verdict); 4] = [
+        ([source, by_two, source], Verdict::Yes),
+        // The distances from source 0 alone: source 2 has hops and a parent.
+        ([source, [3, 2, 2], [1, 1, 0]], no(2, Reason::Source)),
+        ([source, [5, 1, 0], source], no(2, Reason::Lowerable)),
+        ([source, [2, 1, 0], source], no(1, Reason::Parent)),
+    ];
+    for (lines, wanted) in cases {
+        assert_eq!(rt; verdict_on(&rt, alloc, &rows, &[0, 2], &lines)?, wanted);
+    }
     Ok(())
 }
