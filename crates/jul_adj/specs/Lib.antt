@@ -1,3 +1,4 @@
+pub mod Names
 pub mod Roles
 pub mod Faults
 pub mod Reading

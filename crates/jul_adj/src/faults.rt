@@ -1,8 +1,10 @@
 //! What may be wrong with a graph file, and why one was not read.
-ghost use Rattle.std.specs.Prelude.{◌≡◌};
+ghost use Rattle.std.specs.Prelude.{◌≡◌, ◌≤◌, length};
+ghost use Rattle.jul_adj.specs.Names.{kind_name};
 ghost use Rattle.jul_adj.specs.declared.faults.ReadError.TheVariants.{Bad, Memory};
 
 use std::alloc::{AllocError, AllocFailed};
+use std::fmt;
 use thiserror::Error;
 
 /// What is wrong with a graph file, in the order in which the kinds are tried at one token.
@@ -34,6 +36,40 @@ pub enum FaultKind {
     Trailing,
     /// The file is longer than the limit.
     TooLong,
+}
+
+impl FaultKind {
+    /// The name of the kind, as messages have it. Takes no memory.
+    pub fn name(self) -> &'static str
+        ensures text { result.now ≡ kind_name self }
+        ensures short { length result.now ≤ 15 }
+    {
+        match self {
+            FaultKind::Header => "Header",
+            FaultKind::BadNumber => "BadNumber",
+            FaultKind::TooManyVertices => "TooManyVertices",
+            FaultKind::TooManyEdges => "TooManyEdges",
+            FaultKind::FirstOffset => "FirstOffset",
+            FaultKind::OffsetRange => "OffsetRange",
+            FaultKind::OffsetOrder => "OffsetOrder",
+            FaultKind::TargetRange => "TargetRange",
+            FaultKind::NegativeWeight => "NegativeWeight",
+            FaultKind::WeightRange => "WeightRange",
+            FaultKind::Truncated => "Truncated",
+            FaultKind::Trailing => "Trailing",
+            FaultKind::TooLong => "TooLong",
+        }
+    }
+}
+
+impl fmt::Display for FaultKind {
+    ghost use Rattle.std.specs.Prelude.{Some};
+
+    ghost output = { λ x. Some (kind_name x) };
+
+    fn fmt<W: fmt::Write>(&self, f: &mut fmt::Formatter<W>) -> fmt::Result {
+        f.write_str(self.name())
+    }
 }
 
 /// The first fault of a graph file.

@@ -1,3 +1,4 @@
+pub mod Names
 pub mod Verdicts
 pub mod Marks
 pub mod CoreChecks

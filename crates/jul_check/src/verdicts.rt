@@ -1,4 +1,8 @@
 //! What a checker answers.
+ghost use Rattle.std.specs.Prelude.{◌≡◌, ◌≤◌, length};
+ghost use Rattle.jul_check.specs.Names.{reason_name};
+
+use std::fmt;
 
 /// Why a vertex fails. The reasons of one kind of result are tried in this order.
 #[derive(Clone, Copy, Debug, PartialEq, Eq)]
@@ -25,6 +29,38 @@ pub enum Reason {
     NotChosen,
     /// Covers: it is no element, and a set is said to cover it.
     NoElement,
+}
+
+impl Reason {
+    /// The name of the reason, as verdicts have it. Takes no memory.
+    pub fn name(self) -> &'static str
+        ensures text { result.now ≡ reason_name self }
+        ensures short { length result.now ≤ 15 }
+    {
+        match self {
+            Reason::LowerBound => "LowerBound",
+            Reason::UpperBound => "UpperBound",
+            Reason::Order => "Order",
+            Reason::Source => "Source",
+            Reason::Lowerable => "Lowerable",
+            Reason::Parent => "Parent",
+            Reason::Unreached => "Unreached",
+            Reason::NotCovered => "NotCovered",
+            Reason::NotHeld => "NotHeld",
+            Reason::NotChosen => "NotChosen",
+            Reason::NoElement => "NoElement",
+        }
+    }
+}
+
+impl fmt::Display for Reason {
+    ghost use Rattle.std.specs.Prelude.{Some};
+
+    ghost output = { λ x. Some (reason_name x) };
+
+    fn fmt<W: fmt::Write>(&self, f: &mut fmt::Formatter<W>) -> fmt::Result {
+        f.write_str(self.name())
+    }
 }
 
 /// What a checker says of columns.

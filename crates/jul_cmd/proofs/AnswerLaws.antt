@@ -1,25 +1,35 @@
 -- The answer of a run, from what its parts found.
-use Rattle.std.proofs.Common.{◌≡◌, ℕ, ◌≤◌, List, [], ◌∷◌, Option, Some, None, Result, Ok, Err, IfSome, IfOk, refl, sym, ◌∙◌, subst, ap, inl, inr}
-use Rattle.std.specs.List.{All}
-use Rattle.std.specs.Option.{option_map, IsSomeAnd}
-use Rattle.std.specs.Result.{IfErr}
-use Rattle.std.proofs.lemmas.List.Elements.{All-head, All-tail}
+use Rattle.std.proofs.Common.{◌≡◌, ℕ, ◌<◌, ◌≤◌, List, [], ◌∷◌, take, Option, Some, None, Result, Ok, Err, IfSome, IfOk, refl, sym, ◌∙◌, subst, ap, arith, inl, inr}
+use Rattle.std.specs.Option.{option_map, unwrap_or, IsSomeAnd}
+use Rattle.std.proofs.lemmas.List.{take_all}
 use Rattle.jul_base.specs.declared.graphs.RawGraph.{RawGraph}
-use Rattle.jul_base.specs.Sinks.{SinkState}
+use Rattle.jul_base.specs.Graph.{vertices}
+use Rattle.jul_base.specs.Sinks.{SinkState, Appended}
 use Rattle.jul_base.specs.Shelves.{ShelfState, Told, File, IsMissing, contents, known_name, after_open, files_and_last}
 use Rattle.jul_base.specs.Loading.{FailedLoading}
 use Rattle.jul_base.proofs.SinkLaws.{Rose-after}
-use Rattle.jul_witness.specs.declared.faults.WitnessFault.{WitnessFault as Fault}
+use Rattle.jul_adj.specs.declared.faults.Fault.{Fault}
+use Rattle.jul_witness.specs.declared.faults.WitnessFault.{WitnessFault as FaultOfWitness}
 use Rattle.jul_witness.specs.declared.witnesses.Witness.{Witness}
 use Rattle.jul_check.specs.declared.verdicts.Verdict.{Verdict}
 use Rattle.jul_check.specs.declared.verdicts.Verdict.TheVariants as verdicts
 use Rattle.jul_cmd.specs.declared.statuses.Status.{Status}
 use Rattle.jul_cmd.specs.declared.statuses.Status.TheVariants.{Done, Usage, GraphFault, WitnessFault, ReadFault, WriteFault, Memory}
 use Rattle.jul_cmd.specs.declared.statuses.Which.TheVariants as which
-use Rattle.jul_cmd.specs.Queries.{check, Asked}
-use Rattle.jul_cmd.specs.Answers.{IsFile, IsTold, IsBorneOut, judged_file, IsChecked, verdict_status, verdict_text, WorkAnswer, GraphAnswer, Answer}
-use Rattle.jul_cmd.specs.Outcomes.{IsOpenedLast, last_of_work, last_file, names_of_work, IsAnswer, HasGraph, HasCause, IsUntroubled, IsComplete}
-use Rattle.jul_cmd.specs.Parts.{IsWitnessRefusal, IsRefusal, GraphRead, WitnessRead, IsUnread, Judges, HasJudged, IsUnjudged, IsRefused}
+use Rattle.jul_cmd.specs.declared.replies.Reply.{Reply}
+use Rattle.jul_cmd.specs.Statuses.{stage_of}
+use Rattle.jul_cmd.specs.Queries.{Input, graph_file, Problem, distances, Form, Work, solve, check, meant, witness_name, Asked}
+use Rattle.jul_cmd.specs.Words.{asked}
+use Rattle.jul_cmd.specs.Asking.{named_sources}
+use Rattle.jul_cmd.specs.Files.{graph_of_file, witness_of_file, IsFile, Says, IsOpenedLast, IsAtEnd, IsRead}
+use Rattle.jul_cmd.specs.Solving.{IsUnsuited, IsDone, IsSolved}
+use Rattle.jul_cmd.specs.Checking.{IsTold, IsBorneOut, judged_file, IsJudged, IsChecked, verdict_status, verdict_text}
+use Rattle.jul_cmd.specs.Answers.{InputSays, WorkAnswer, Answer}
+use Rattle.jul_cmd.specs.Outcomes.{IsTooLong, HasRead, read_before, IsAnswer, HasCause, IsUntroubled, IsComplete}
+use Rattle.jul_cmd.specs.Parts.{IsGiven, IsWitnessRefusal, IsRefusal, IsInputRead, IsInputUnread, IsWitnessUnread, IsUnsolved, Judges, HasChecked, IsUnchecked, IsRefused, text_of}
+use Rattle.jul_cmd.proofs.SourceLaws.{refusal_stage}
+use Rattle.jul_cmd.proofs.QueryLaws.{named_file}
+use Rattle.jul_cmd.proofs.FileLaws.{graph_to_end, fault_to_end, witness_to_end}
 
 -- ---- a file that is opened after another
 
@@ -64,125 +74,148 @@ FailedLoading-then a b c first name le e h = record {
   last = h.last ∙ opened_anew a b first name e;
 }
 
--- ---- the answer on a graph
+-- ---- the graph
 
-graph_answer : (query : Asked) (shelf : ShelfState) (g : RawGraph) (status : Status) (text : List ℕ) → HasGraph shelf query.graph g → WorkAnswer shelf g query.work status text → Answer query shelf status text
-graph_answer query shelf g status text h said =
-    record { file = h.file; there = h.there; answer = subst (λ r. GraphAnswer shelf query.work r status text) (sym h.lawful) said }
+abbrev query_of : Input → Work → Asked
+query_of input work = record { input = input; work = work }
+
+-- a graph that couldn't be read is the refusal of every work
+pub input_refused : (input : Input) (work : Work) (a b : ShelfState) (status : Status) → IsInputUnread input a b status → IsRefused (query_of input work) a b status
+input_refused (graph_file name) work a b status (inl faulty) =
+    let f = faulty.fault in
+    let answer : IsAnswer (query_of (graph_file name) work) a b (GraphFault f) [] =
+    record {
+      answer = record { graph = Err f; input = faulty.read.content; answer = (refl, refl) };
+      read = (faulty.read.last, λ other. fault_to_end a b name f faulty.read other);
+    }
+    in subst (IsRefused (query_of (graph_file name) work) a b) (sym faulty.is) (inl ((omega (arith), omega (arith)), answer))
+input_refused (graph_file name) work a b status (inr (inl unloaded)) =
+    inr (inl (which.Graph, unloaded.0, record { name = name; named = refl; failed = unloaded.1 }))
+input_refused (graph_file name) work a b status (inr (inr memory)) = inr (inr memory)
+
+-- ---- a problem that is solved
+
+-- the graph is refused at its stage
+unsuited_stage : (g : RawGraph) (problem : Problem) (status : Status) → IsUnsuited g problem status → stage_of status ≡ 4
+unsuited_stage g (distances sources) status unsuited = refusal_stage (vertices g) sources status unsuited
+
+solve_read : (input : Input) (problem : Problem) (form : Form) (a b : ShelfState) (g : RawGraph) (status : Status) → 1 ≤ stage_of status → IsInputRead input a b g →
+    HasRead a b (read_before (query_of input (solve problem form)) status) status
+solve_read (graph_file name) problem form a b g status le read =
+    subst (λ names. HasRead a b names status) (sym (take_all (stage_of status) (name ∷ []) le)) (read.last, λ other. graph_to_end a b name g read)
+
+solve_said : (input : Input) (a b : ShelfState) (g : RawGraph) → IsInputRead input a b g → InputSays a input (Ok g)
+solve_said (graph_file name) a b g read = read.content
+
+solve_answer : (input : Input) (work : Work) (problem : Problem) (form : Form) (a b : ShelfState) (g : RawGraph) (status : Status) (text : List ℕ) → work ≡ solve problem form →
+    IsInputRead input a b g → 1 ≤ stage_of status → IsSolved g problem form status text → IsAnswer (query_of input work) a b status text
+solve_answer input work problem form a b g status text e read le solved =
+    subst (λ w. IsAnswer (query_of input w) a b status text) (sym e) (record {
+      answer = record { graph = Ok g; input = solve_said input a b g read; answer = solved };
+      read = solve_read input problem form a b g status le read;
+    })
+
+pub solve_done : (input : Input) (work : Work) (problem : Problem) (form : Form) (a b : ShelfState) (g : RawGraph) (status : Status) (text : List ℕ) → work ≡ solve problem form →
+    IsInputRead input a b g → IsDone g problem form status text → IsAnswer (query_of input work) a b status text
+solve_done input work problem form a b g status text e read done =
+    solve_answer input work problem form a b g status text e read (omega (arith, ap stage_of done.done)) (inr done)
+
+pub solve_refused : (input : Input) (work : Work) (problem : Problem) (form : Form) (a b : ShelfState) (g : RawGraph) (status : Status) → work ≡ solve problem form →
+    IsInputRead input a b g → IsUnsolved g problem status → IsRefused (query_of input work) a b status
+solve_refused input work problem form a b g status e read (inr memory) = inr (inr memory)
+solve_refused input work problem form a b g status e read (inl unsuited) =
+    let at : stage_of status ≡ 4 = unsuited_stage g problem status unsuited in
+    inl ((omega (arith, at), omega (arith, at)), solve_answer input work problem form a b g status [] e read (omega (arith, at)) (inl (unsuited, refl)))
 
 -- ---- the check
 
-has_judged : (a b : ShelfState) (g : RawGraph) (name : List ℕ) (source : ℕ) (w : Witness) (said : Result Verdict Status) (status : Status) (text : List ℕ) → WitnessRead a b name w →
-    judged_file g source (Ok w) ≡ said → IsTold said status text → (status ≡ Done → IsBorneOut g source (Ok w)) → HasJudged a b g name source status text
-has_judged a b g name source w said status text read is told sound = record {
-  checked = record {
-    file = read.file;
-    there = read.there;
-    told = subst (λ r. IsTold (judged_file g source r) status text) (sym read.lawful) (subst (λ r. IsTold r status text) (sym is) told);
-    sound = λ done. subst (IsBorneOut g source) (sym read.lawful) (sound done);
-  };
-  last = read.read.last;
-  to_end = λ long. read.read.to_end;
-}
-
-done_is_yes : (v : Verdict) → verdict_status v ≡ Done → v ≡ verdicts.Yes
-done_is_yes verdicts.Yes e = refl
-done_is_yes (verdicts.No vertex reason) e = cc
-
-pub judged_found : (a b : ShelfState) (g : RawGraph) (name : List ℕ) (source : ℕ) (w : Witness) (r : Result Verdict Status) → WitnessRead a b name w → Judges r (judged_file g source (Ok w)) →
-    (r ≡ Ok verdicts.Yes → IsBorneOut g source (Ok w)) → IfOk r (λ v. HasJudged a b g name source (verdict_status v) (verdict_text v))
-judged_found a b g name source w (Err status) read said sound = tt
-judged_found a b g name source w (Ok v) read said sound =
-    has_judged a b g name source w (Ok v) (verdict_status v) (verdict_text v) read said (refl, refl) (λ done. sound (ap (λ (x : Verdict). Ok x) (done_is_yes v done)))
-
-pub judged_refused : (a b : ShelfState) (g : RawGraph) (name : List ℕ) (source : ℕ) (w : Witness) (r : Result Verdict Status) → WitnessRead a b name w → Judges r (judged_file g source (Ok w)) →
-    IfErr r (IsUnjudged a b g name source)
-judged_refused a b g name source w (Ok v) read said = tt
-judged_refused a b g name source w (Err status) read (inl refusal) =
-    inl (refusal.0, has_judged a b g name source w (Err status) status [] read refusal.1 (refl, refl) (λ done. absurd (subst IsWitnessRefusal done refusal.0)))
-judged_refused a b g name source w (Err status) read (inr memory) = inr (inr memory)
-
-fault_is_told : (g : RawGraph) (source : ℕ) (fault : Fault) (status : Status) → status ≡ WitnessFault fault → IsTold (judged_file g source (Err fault)) status []
+fault_is_told : (g : RawGraph) (sources : List ℕ) (fault : FaultOfWitness) → IsTold (judged_file g sources (Err fault)) (WitnessFault fault) []
 unfolding judged_file
-fault_is_told g source fault status e = (e, refl)
+fault_is_told g sources fault = (refl, refl)
 
-pub unread_refused : (a b : ShelfState) (g : RawGraph) (name : List ℕ) (source : ℕ) (status : Status) → IsUnread a b name status → IsUnjudged a b g name source status
-unread_refused a b g name source status (inr unloaded) = inr unloaded
-unread_refused a b g name source status (inl f) =
-    let refusal : IsWitnessRefusal status = subst IsWitnessRefusal (sym f.refusal) tt in
-    inl (
-      refusal,
-      record {
-        checked = record {
-          file = f.file;
-          there = f.there;
-          told = subst (λ r. IsTold (judged_file g source r) status []) (sym f.faulty) (fault_is_told g source f.fault status f.refusal);
-          sound = λ done. absurd (subst IsWitnessRefusal done refusal);
-        };
-        last = f.last;
-        to_end = f.to_end;
-      },
-    )
+told_fault : (g : RawGraph) (sources : List ℕ) (fault : FaultOfWitness) (status : Status) (text : List ℕ) → IsTold (judged_file g sources (Err fault)) status text → status ≡ WitnessFault fault
+unfolding judged_file
+told_fault g sources fault status text told = told.0
 
--- the file opened last is the witness, unless the graph has a fault
-refusal_last : (query : Asked) (status : Status) → IsWitnessRefusal status → last_file query status ≡ last_of_work query.work query.graph
-refusal_last query (GraphFault fault) h = absurd h
-refusal_last query status h = refl
-
-is_refusal : (status : Status) → IsWitnessRefusal status → IsRefusal status
-is_refusal (GraphFault fault) h = tt
-is_refusal status h = h
-
--- the witness was judged on a graph that was read before
-check_answer : (query : Asked) (a b c : ShelfState) (g : RawGraph) (name : List ℕ) (source : ℕ) (status : Status) (text : List ℕ) → query.work ≡ check name source → GraphRead a b query.graph g →
-    last_file query status ≡ last_of_work query.work query.graph → HasJudged b c g name source status text → IsAnswer query a c status text
-check_answer query a b c g name source status text work read last judged =
-    let checked : IsChecked a g name source status text = record {
-      file = judged.checked.file;
-      there = IsFile-before a b query.graph name judged.checked.file read.read.last judged.checked.there;
-      told = judged.checked.told;
-      sound = judged.checked.sound;
-    } in
+pub unread_refused : (a b : ShelfState) (g : RawGraph) (name sources : List ℕ) (status : Status) → IsWitnessUnread a b name status → IsUnchecked a b g name sources status
+unread_refused a b g name sources status (inr unloaded) = inr unloaded
+unread_refused a b g name sources status (inl faulty) =
+    let f = faulty.fault in
+    let checked : HasChecked a b g name sources (WitnessFault f) [] =
     record {
-      answer = graph_answer query a g status text read.has_graph (subst (λ w. WorkAnswer a g w status text) (sym work) checked);
-      last = subst (IsOpenedLast a c) (sym (last ∙ ap (λ w. last_of_work w query.graph) work)) (IsOpenedLast-then a b c query.graph name read.read.last judged.last);
-      to_end = judged.to_end;
+      witness = Err f;
+      read = faulty.read;
+      judged = record { told = fault_is_told g sources f; sound = λ done. absurd (omega (arith, ap stage_of done)) };
+    }
+    in subst (IsUnchecked a b g name sources) (sym faulty.is) (inl ((omega (arith), omega (arith)), checked))
+
+-- no byte is left of a witness that was judged, unless the status says that it is too long
+checked_to_end : (b c : ShelfState) (g : RawGraph) (name sources : List ℕ) (status : Status) (text : List ℕ) → HasChecked b c g name sources status text → (IsTooLong status → ⊥) → IsAtEnd c
+checked_to_end b c g name sources status text checked other =
+    witness_to_end b c name checked.witness checked.read (λ f e long.
+    let told = subst (λ r. IsTold (judged_file g sources r) status text) e checked.judged.told in
+    other (subst IsTooLong (sym (told_fault g sources f status text told)) long))
+
+check_said : (a b c : ShelfState) (graph : List ℕ) (g : RawGraph) (name sources : List ℕ) (status : Status) (text : List ℕ) → IsRead graph_of_file a b graph (Ok g) →
+    HasChecked b c g name sources status text → IsChecked a g name sources status text
+check_said a b c graph g name sources status text read checked =
+    let content = checked.read.content in
+    record {
+      witness = checked.witness;
+      file = record { file = content.file; there = IsFile-before a b graph name content.file read.last content.there; is = content.is };
+      judged = checked.judged;
     }
 
-pub check_refused : (query : Asked) (a b c : ShelfState) (g : RawGraph) (name : List ℕ) (source : ℕ) (status : Status) → query.work ≡ check name source → a.faults ≤ b.faults → GraphRead a b query.graph g →
-    IsUnjudged b c g name source status → IsRefused query a c status
-check_refused query a b c g name source status work le read (inl h) =
-    inl (is_refusal status h.0, check_answer query a b c g name source status [] work read (refusal_last query status h.0) h.1)
-check_refused query a b c g name source status work le read (inr (inr memory)) = inr (inr memory)
-check_refused query a b c g name source status work le read (inr (inl h)) =
+check_answer : (input : Input) (work : Work) (a b c : ShelfState) (g : RawGraph) (name : List ℕ) (sources : Option (List ℕ)) (status : Status) (text : List ℕ) → work ≡ check name sources →
+    IsInputRead input a b g → 2 ≤ stage_of status → HasChecked b c g name (meant sources) status text → IsAnswer (query_of input work) a c status text
+check_answer (graph_file graph) work a b c g name sources status text e read le checked =
+    subst (λ w. IsAnswer (query_of (graph_file graph) w) a c status text) (sym e) (record {
+      answer = record { graph = Ok g; input = read.content; answer = check_said a b c graph g name (meant sources) status text read checked };
+      read = subst (λ names. HasRead a c names status) (sym (take_all (stage_of status) (graph ∷ name ∷ []) le))
+          (IsOpenedLast-then a b c graph name read.last checked.read.last, λ other. checked_to_end b c g name (meant sources) status text checked other);
+    })
+
+pub checked_done : (input : Input) (work : Work) (a b c : ShelfState) (g : RawGraph) (name : List ℕ) (sources : Option (List ℕ)) (r : Result Reply Status) → work ≡ check name sources →
+    IsInputRead input a b g → IfOk r (λ reply. IsGiven reply.status) → IfOk r (λ reply. HasChecked b c g name (meant sources) reply.status (text_of reply.text)) →
+    IfOk r (λ reply. IsAnswer (query_of input work) a c reply.status (text_of reply.text))
+checked_done input work a b c g name sources (Err status) e read may checked = tt
+checked_done input work a b c g name sources (Ok reply) e read may checked =
+    check_answer input work a b c g name sources reply.status (text_of reply.text) e read (omega (arith, may)) checked
+
+pub check_refused : (input : Input) (work : Work) (a b c : ShelfState) (g : RawGraph) (name : List ℕ) (sources : Option (List ℕ)) (status : Status) → work ≡ check name sources →
+    a.faults ≤ b.faults → IsInputRead input a b g → IsUnchecked b c g name (meant sources) status → IsRefused (query_of input work) a c status
+check_refused input work a b c g name sources status e le read (inl h) =
+    inl ((omega (arith, h.0.0), h.0.1), check_answer input work a b c g name sources status [] e read h.0.0 h.1)
+check_refused (graph_file graph) work a b c g name sources status e le read (inr (inl h)) =
     inr (inl (
       which.Witness,
       h.0,
-      record {
-        graph = g;
-        has_graph = read.has_graph;
-        name = name;
-        source = source;
-        checks = work;
-        failed = FailedLoading-then a b c query.graph name le read.read.last h.1;
-      },
+      ((g, read.content), record { name = name; named = ap witness_name e; failed = FailedLoading-then a b c graph name le read.last h.1 }),
     ))
+check_refused input work a b c g name sources status e le read (inr (inr memory)) = inr (inr memory)
+
+-- ---- the statuses
+
+-- an answer whose text was written whole
+pub written_cause : (words : List (List ℕ)) (query : Asked) (a b : ShelfState) (out out' : SinkState) (status : Status) (text : List ℕ) → asked words ≡ Some query → IsGiven status →
+    IsAnswer query a b status text → Appended out out' text → HasCause words a b out out' status
+written_cause words query a b out out' Usage text taken may answer whole = absurd (omega (arith, may))
+written_cause words query a b out out' (ReadFault file) text taken may answer whole = absurd (omega (arith, may))
+written_cause words query a b out out' Memory text taken may answer whole = absurd (omega (arith, may))
+written_cause words query a b out out' WriteFault text taken may answer whole = absurd (omega (arith, may))
+written_cause words query a b out out' status text taken may answer whole = record { query = query; taken = taken; text = text; answer = answer; whole = whole }
 
 -- ---- where nothing goes wrong outside
 
-witness_named : (P : List ℕ → Type 0) (query : Asked) (name : List ℕ) (source : ℕ) → query.work ≡ check name source → All P (query.graph ∷ names_of_work query.work) → P name
-witness_named P query name source work all =
-    All-head P name [] (All-tail P query.graph (name ∷ []) (subst (λ w. All P (query.graph ∷ names_of_work w)) work all))
-
 pub cause_is_complete : (words : List (List ℕ)) (a b : ShelfState) (out out' : SinkState) (status : Status) → HasCause words a b out out' status → IsUntroubled words a b out out' → IsComplete words a b out out' status
 cause_is_complete words a b out out' Usage h untroubled = inl (refl, h.0)
-cause_is_complete words a b out out' (ReadFault which.Graph) h untroubled = elim h.2.cause [
+cause_is_complete words a b out out' (ReadFault which.Graph) h untroubled = elim h.2.failed.cause [
   | inl rose ↦ absurd (untroubled.shelf_held rose)
-  | inr missing ↦ absurd (All-head (λ name. IsMissing a name → ⊥) h.0.graph (names_of_work h.0.work) (untroubled.files_there h.0 h.1) missing)
+  | inr missing ↦ absurd (named_file (λ name. IsMissing a name → ⊥) h.0 which.Graph h.2.name h.2.named (untroubled.files_there h.0 h.1) missing)
 ]
-cause_is_complete words a b out out' (ReadFault which.Witness) h untroubled = elim h.2.failed.cause [
+cause_is_complete words a b out out' (ReadFault which.Witness) h untroubled = let file = h.2.1 in elim file.failed.cause [
   | inl rose ↦ absurd (untroubled.shelf_held rose)
-  | inr missing ↦ absurd (witness_named (λ name. IsMissing a name → ⊥) h.0 h.2.name h.2.source h.2.checks (untroubled.files_there h.0 h.1) missing)
+  | inr missing ↦ absurd (named_file (λ name. IsMissing a name → ⊥) h.0 which.Witness file.name file.named (untroubled.files_there h.0 h.1) missing)
 ]
 cause_is_complete words a b out out' WriteFault h untroubled = absurd (untroubled.out_held h.part.rose)
 cause_is_complete words a b out out' Memory h untroubled = inr (inr refl)

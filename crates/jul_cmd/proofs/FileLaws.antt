@@ -9,17 +9,18 @@ use Rattle.jul_base.specs.Shelves.{ShelfState, Told, contents, after_open, after
 use Rattle.jul_base.specs.Loading.{bytes_of, IsLoaded}
 use Rattle.jul_adj.specs.declared.faults.Fault.{Fault}
 use Rattle.jul_adj.specs.declared.faults.FaultKind.TheVariants as graph_kinds
-use Rattle.jul_adj.specs.Reading.{reads}
+use Rattle.jul_adj.specs.declared.faults.ReadError.{ReadError}
+use Rattle.jul_adj.specs.declared.faults.ReadError.TheVariants as read_errors
+use Rattle.jul_adj.specs.Reading.{reads, Fails as GraphFails}
 use Rattle.jul_witness.specs.declared.faults.WitnessFault.{WitnessFault}
 use Rattle.jul_witness.specs.declared.faults.WitnessKind.TheVariants as witness_kinds
 use Rattle.jul_witness.specs.declared.witnesses.Witness.{Witness}
-use Rattle.jul_witness.specs.Reading.{reads_witness}
-use Rattle.jul_cmd.specs.declared.statuses.Status.TheVariants.{GraphFault}
-use Rattle.jul_cmd.specs.declared.statuses.Status.TheVariants as statuses
-use Rattle.jul_cmd.specs.Queries.{Asked}
-use Rattle.jul_cmd.specs.Answers.{graph_of_file, witness_of_file, IsFile}
-use Rattle.jul_cmd.specs.Outcomes.{IsOpenedLast, IsAnswer}
-use Rattle.jul_cmd.specs.Parts.{GraphRead, WitnessRead, HasWitnessFault}
+use Rattle.jul_witness.specs.declared.faults.WitnessError.{WitnessError}
+use Rattle.jul_witness.specs.declared.faults.WitnessError.TheVariants as witness_errors
+use Rattle.jul_witness.specs.Reading.{reads_witness, Fails as WitnessFails}
+use Rattle.jul_cmd.specs.Statuses.{graph_refusal, witness_refusal}
+use Rattle.jul_cmd.specs.Files.{graph_of_file, witness_of_file, IsFile, IsOpenedLast, IsAtEnd, IsRead}
+use Rattle.jul_cmd.specs.Parts.{IsGraphUnread, IsWitnessUnread}
 
 -- ---- what bytes say, where a file that is too long has a fault of its own
 
@@ -40,14 +41,6 @@ is_short says too_long h file r e other = elim (cases_lt MAX_BYTES (length file)
   | inr le ↦ le
 ]
 
--- the file of which these bytes were loaded
-pub record FileRead {A B : Type 0} (says : List ℕ → Result A B) (shelf shelf' : ShelfState) (name bytes : List ℕ) : Type 0 where
-  pub file : List ℕ
-  pub there : IsFile shelf name file
-  pub same : says file ≡ says bytes
-  pub last : IsOpenedLast shelf shelf' name
-  pub to_end : length file ≤ MAX_BYTES → IfSome shelf'.told (λ t. t.left ≡ [])
-
 opened_last : (o p : Option Told) (name : List ℕ) (n : ℕ) → p ≡ option_map (λ t. after_read n (after_open name t)) o → files_and_last p ≡ files_and_last (option_map (after_open name) o)
 opened_last None p name n e = ap files_and_last e
 opened_last (Some t) p name n e = ap files_and_last e
@@ -64,11 +57,16 @@ file_read says too_long h (Some t) p name bytes there first rest = (
   λ short. subst (λ o. IfSome o (λ t. t.left ≡ [])) (sym rest) (drop_all (MAX_BYTES + 1) (bytes_of t name) (omega (arith, short))),
 )
 
-loaded_file : {A B : Type 0} (says : List ℕ → Result A B) (too_long : B) → TellsLength says too_long → (shelf shelf' : ShelfState) (name bytes : List ℕ) →
-    IsLoaded shelf shelf' name bytes (MAX_BYTES + 1) → FileRead says shelf shelf' name bytes
-loaded_file says too_long h shelf shelf' name bytes loaded =
+loaded_file : {A B : Type 0} (says : List ℕ → Result A B) (too_long : B) → TellsLength says too_long → (shelf shelf' : ShelfState) (name bytes : List ℕ) (said : Result A B) →
+    IsLoaded shelf shelf' name bytes (MAX_BYTES + 1) → says bytes ≡ said → IsRead says shelf shelf' name said
+loaded_file says too_long h shelf shelf' name bytes said loaded e =
     let f = file_read says too_long h shelf.told shelf'.told name bytes loaded.there loaded.first_bytes loaded.rest in
-    record { file = f.0; there = f.1; same = f.2; last = opened_last shelf.told shelf'.told name (MAX_BYTES + 1) loaded.rest; to_end = f.3 }
+    record { content = record { file = f.0; there = f.1; is = f.2 ∙ e }; last = opened_last shelf.told shelf'.told name (MAX_BYTES + 1) loaded.rest; to_end = f.3 }
+
+-- no byte is left of a file that says something else than that it is too long
+read_to_end : {A B : Type 0} (says : List ℕ → Result A B) (too_long : B) → TellsLength says too_long → (shelf shelf' : ShelfState) (name : List ℕ) (said : Result A B) →
+    IsRead says shelf shelf' name said → (said ≡ Err too_long → ⊥) → IsAtEnd shelf'
+read_to_end says too_long h shelf shelf' name said read other = read.to_end (is_short says too_long h read.content.file said read.content.is other)
 
 -- ---- a graph file
 
@@ -89,23 +87,23 @@ graph_is_no_fault g f e = cc
 same_fault : (f h : Fault) → ◌≡◌ {A = Result RawGraph Fault} (Err f) (Err h) → f ≡ h
 same_fault f h e = cc
 
-pub has_graph : (shelf shelf' : ShelfState) (name bytes : List ℕ) (g h : RawGraph) → IsLoaded shelf shelf' name bytes (MAX_BYTES + 1) → reads bytes MAX_BYTES ≡ Ok g → h ≡ g → GraphRead shelf shelf' name h
-has_graph shelf shelf' name bytes g h loaded read same =
-    let f : FileRead graph_of_file shelf shelf' name bytes = loaded_file graph_of_file long_graph graph_tells_length shelf shelf' name bytes loaded in
-    let lawful : graph_of_file f.file ≡ Ok h = f.same ∙ graph_says bytes (Ok g) read ∙ ap (λ (x : RawGraph). Ok x) (sym same) in
-    let short : length f.file ≤ MAX_BYTES = is_short graph_of_file long_graph graph_tells_length f.file (Ok h) lawful (graph_is_no_fault h long_graph) in
-    record { has_graph = record { file = f.file; there = f.there; lawful = lawful }; read = record { last = f.last; to_end = f.to_end short } }
+pub loaded_graph : (shelf shelf' : ShelfState) (name bytes : List ℕ) (said : Result RawGraph Fault) → IsLoaded shelf shelf' name bytes (MAX_BYTES + 1) → reads bytes MAX_BYTES ≡ said →
+    IsRead graph_of_file shelf shelf' name said
+loaded_graph shelf shelf' name bytes said loaded e = loaded_file graph_of_file long_graph graph_tells_length shelf shelf' name bytes said loaded (graph_says bytes said e)
 
-pub has_fault : (query : Asked) (shelf shelf' : ShelfState) (bytes : List ℕ) (fault : Fault) → IsLoaded shelf shelf' query.graph bytes (MAX_BYTES + 1) → reads bytes MAX_BYTES ≡ Err fault →
-    IsAnswer query shelf shelf' (GraphFault fault) []
-has_fault query shelf shelf' bytes fault loaded read =
-    let f : FileRead graph_of_file shelf shelf' query.graph bytes = loaded_file graph_of_file long_graph graph_tells_length shelf shelf' query.graph bytes loaded in
-    let faulty : graph_of_file f.file ≡ Err fault = f.same ∙ graph_says bytes (Err fault) read in
-    record {
-      answer = record { file = f.file; there = f.there; answer = rw faulty (refl, refl) };
-      last = f.last;
-      to_end = λ other. f.to_end (is_short graph_of_file long_graph graph_tells_length f.file (Err fault) faulty (λ e. other (ap (λ (x : Fault). x.kind) (same_fault fault long_graph e))));
-    }
+pub graph_to_end : (shelf shelf' : ShelfState) (name : List ℕ) (g : RawGraph) → IsRead graph_of_file shelf shelf' name (Ok g) → IsAtEnd shelf'
+graph_to_end shelf shelf' name g read = read_to_end graph_of_file long_graph graph_tells_length shelf shelf' name (Ok g) read (graph_is_no_fault g long_graph)
+
+pub fault_to_end : (shelf shelf' : ShelfState) (name : List ℕ) (f : Fault) → IsRead graph_of_file shelf shelf' name (Err f) → (f.kind ≡ graph_kinds.TooLong → ⊥) → IsAtEnd shelf'
+fault_to_end shelf shelf' name f read other =
+    read_to_end graph_of_file long_graph graph_tells_length shelf shelf' name (Err f) read (λ e. other (ap (λ (x : Fault). x.kind) (same_fault f long_graph e)))
+
+-- a graph that wasn't read, after its file was loaded
+pub graph_unread : (shelf shelf' : ShelfState) (name text bytes : List ℕ) (e : ReadError) → text ≡ bytes → IsLoaded shelf shelf' name bytes (MAX_BYTES + 1) → GraphFails e (reads text MAX_BYTES) →
+    IsGraphUnread shelf shelf' name (graph_refusal e)
+graph_unread shelf shelf' name text bytes read_errors.Memory same loaded fails = inr (inr refl)
+graph_unread shelf shelf' name text bytes (read_errors.Bad fault) same loaded fails =
+    inl (record { fault = fault; read = loaded_graph shelf shelf' name bytes (Err fault) loaded (ap (λ b. reads b MAX_BYTES) (sym same) ∙ fails); is = refl })
 
 -- ---- a witness file
 
@@ -120,30 +118,20 @@ witness_says : (bytes : List ℕ) (r : Result Witness WitnessFault) → reads_wi
 unfolding witness_of_file
 witness_says bytes r e = e
 
-witness_is_no_fault : (w : Witness) (f : WitnessFault) → ◌≡◌ {A = Result Witness WitnessFault} (Ok w) (Err f) → ⊥
-witness_is_no_fault w f e = cc
+pub loaded_witness : (shelf shelf' : ShelfState) (name bytes : List ℕ) (said : Result Witness WitnessFault) → IsLoaded shelf shelf' name bytes (MAX_BYTES + 1) → reads_witness bytes MAX_BYTES ≡ said →
+    IsRead witness_of_file shelf shelf' name said
+loaded_witness shelf shelf' name bytes said loaded e =
+    loaded_file witness_of_file long_witness witness_tells_length shelf shelf' name bytes said loaded (witness_says bytes said e)
 
-same_witness_fault : (f h : WitnessFault) → ◌≡◌ {A = Result Witness WitnessFault} (Err f) (Err h) → f ≡ h
-same_witness_fault f h e = cc
+-- no byte is left of a witness file, unless its fault is that it is too long
+pub witness_to_end : (shelf shelf' : ShelfState) (name : List ℕ) (said : Result Witness WitnessFault) → IsRead witness_of_file shelf shelf' name said →
+    ((f : WitnessFault) → said ≡ Err f → f.kind ≡ witness_kinds.TooLong → ⊥) → IsAtEnd shelf'
+witness_to_end shelf shelf' name said read other =
+    read_to_end witness_of_file long_witness witness_tells_length shelf shelf' name said read (λ e. other long_witness e refl)
 
-pub has_witness : (shelf shelf' : ShelfState) (name bytes : List ℕ) (w : Witness) → IsLoaded shelf shelf' name bytes (MAX_BYTES + 1) → reads_witness bytes MAX_BYTES ≡ Ok w → WitnessRead shelf shelf' name w
-has_witness shelf shelf' name bytes w loaded read =
-    let f : FileRead witness_of_file shelf shelf' name bytes = loaded_file witness_of_file long_witness witness_tells_length shelf shelf' name bytes loaded in
-    let lawful : witness_of_file f.file ≡ Ok w = f.same ∙ witness_says bytes (Ok w) read in
-    let short : length f.file ≤ MAX_BYTES = is_short witness_of_file long_witness witness_tells_length f.file (Ok w) lawful (witness_is_no_fault w long_witness) in
-    record { file = f.file; there = f.there; lawful = lawful; read = record { last = f.last; to_end = f.to_end short } }
-
-pub has_witness_fault : (shelf shelf' : ShelfState) (name bytes : List ℕ) (fault : WitnessFault) → IsLoaded shelf shelf' name bytes (MAX_BYTES + 1) → reads_witness bytes MAX_BYTES ≡ Err fault →
-    HasWitnessFault shelf shelf' name (statuses.WitnessFault fault)
-has_witness_fault shelf shelf' name bytes fault loaded read =
-    let f : FileRead witness_of_file shelf shelf' name bytes = loaded_file witness_of_file long_witness witness_tells_length shelf shelf' name bytes loaded in
-    let faulty : witness_of_file f.file ≡ Err fault = f.same ∙ witness_says bytes (Err fault) read in
-    record {
-      fault = fault;
-      refusal = refl;
-      file = f.file;
-      there = f.there;
-      faulty = faulty;
-      last = f.last;
-      to_end = λ other. f.to_end (is_short witness_of_file long_witness witness_tells_length f.file (Err fault) faulty (λ e. other (ap (λ (x : WitnessFault). x.kind) (same_witness_fault fault long_witness e))));
-    }
+-- a witness that wasn't read, after its file was loaded
+pub witness_unread : (shelf shelf' : ShelfState) (name text bytes : List ℕ) (e : WitnessError) → text ≡ bytes → IsLoaded shelf shelf' name bytes (MAX_BYTES + 1) → WitnessFails e (reads_witness text MAX_BYTES) →
+    IsWitnessUnread shelf shelf' name (witness_refusal e)
+witness_unread shelf shelf' name text bytes witness_errors.Memory same loaded fails = inr (inr refl)
+witness_unread shelf shelf' name text bytes (witness_errors.Bad fault) same loaded fails =
+    inl (record { fault = fault; read = loaded_witness shelf shelf' name bytes (Err fault) loaded (ap (λ b. reads_witness b MAX_BYTES) (sym same) ∙ fails); is = refl })

@@ -1,5 +1,6 @@
 pub mod RelaxationLaws
+pub mod SourceLaws
 pub mod QueryLaws
 pub mod FileLaws
-pub mod AnswerLaws
 pub mod VerdictLaws
+pub mod AnswerLaws

@@ -1,18 +1,27 @@
--- Words by their number.
-use Rattle.std.proofs.Common.{◌≡◌, ◌≢◌, ℕ, false, List, [], ◌∷◌, length, None, Option, inl, inr, refl, sym, subst, ap, ◌∙◌, arith}
+-- Words by the name of their task, and the files of a query.
+use Rattle.std.proofs.Common.{◌≡◌, ◌≢◌, ℕ, false, List, [], ◌∷◌, ◌++◌, length, Option, Some, None, inl, inr, refl, sym, subst, ap, ◌∙◌, arith}
 use Rattle.std.specs.Str.{bytes_eq}
 use Rattle.std.specs.Prelude.{codes}
+use Rattle.std.specs.List.{All}
 use Rattle.std.proofs.lemmas.Bool.{cases_Bool}
+use Rattle.std.proofs.lemmas.List.Elements.{All-head, All-tail}
 use Rattle.std.proofs.lemmas.Slice.Eq.{bytes_eq-Decides}
 use Rattle.jul_cmd.specs.declared.queries.Query.{Query}
-use Rattle.jul_cmd.specs.Queries.{Asked, asked, asked_search, asked_check}
+use Rattle.jul_cmd.specs.declared.statuses.Which.{Which}
+use Rattle.jul_cmd.specs.declared.statuses.Which.TheVariants.{Graph, Witness}
+use Rattle.jul_cmd.specs.Queries.{Asked, name_of, listed, read_in_order}
+use Rattle.jul_cmd.specs.Words.{asked, asked_wbfs, asked_delta, asked_check}
 use Rattle.jul_cmd.specs.Asking.{IsAsked}
 
 -- ---- by the name of the task
 
-pub asked-wbfs : (task : List ℕ) (words : List (List ℕ)) → task ≡ codes "wbfs" → asked (task ∷ words) ≡ asked_search words
+pub asked-wbfs : (task : List ℕ) (words : List (List ℕ)) → task ≡ codes "wbfs" → asked (task ∷ words) ≡ asked_wbfs words
 unfolding asked
 asked-wbfs task words e = ap (λ t. asked (t ∷ words)) e
+
+pub asked-delta : (task : List ℕ) (words : List (List ℕ)) → task ≡ codes "delta" → asked (task ∷ words) ≡ asked_delta words
+unfolding asked
+asked-delta task words e = ap (λ t. asked (t ∷ words)) e
 
 pub asked-check : (task : List ℕ) (words : List (List ℕ)) → task ≡ codes "check" → asked (task ∷ words) ≡ asked_check words
 unfolding asked
@@ -21,9 +30,9 @@ asked-check task words e = ap (λ t. asked (t ∷ words)) e
 differs : (a b : List ℕ) → a ≢ b → bytes_eq a b ≡ false
 differs a b h = elim (cases_Bool (bytes_eq a b)) [ inl is ↦ absurd (h ((bytes_eq-Decides a b).0 is)) | inr is ↦ is ]
 
-pub asked-other : (task : List ℕ) (words : List (List ℕ)) → task ≢ codes "wbfs" → task ≢ codes "check" → asked (task ∷ words) ≡ None
+pub asked-other : (task : List ℕ) (words : List (List ℕ)) → task ≢ codes "wbfs" → task ≢ codes "delta" → task ≢ codes "check" → asked (task ∷ words) ≡ None
 unfolding asked
-asked-other task words a b = rw (differs task (codes "wbfs") a, differs task (codes "check") b) refl
+asked-other task words a b d = rw (differs task (codes "wbfs") a, differs task (codes "delta") b, differs task (codes "check") d) refl
 
 asked-none : asked [] ≡ None
 unfolding asked
@@ -37,22 +46,18 @@ pub taken_none : (o : Option Query) (words : List (List ℕ)) → o ≡ None →
 taken_none o [] none empty = subst (λ (p : Option Query). IsAsked p (asked [])) (sym none) asked-none
 taken_none o (w ∷ ws) none empty = absurd (omega (arith, empty))
 
--- ---- by the number of words behind it
+-- ---- the files of a query
 
--- a search takes four words behind its name
-pub search_of_four : (ws : List (List ℕ)) → length ws ≢ 4 → asked_search ws ≡ None
-search_of_four [] h = refl
-search_of_four (a ∷ []) h = refl
-search_of_four (a ∷ b ∷ []) h = refl
-search_of_four (a ∷ b ∷ c ∷ []) h = refl
-search_of_four (a ∷ b ∷ c ∷ d ∷ []) h = absurd (h refl)
-search_of_four (a ∷ b ∷ c ∷ d ∷ e ∷ ws) h = refl
+first_listed : (P : List ℕ → Type 0) (a b : Option (List ℕ)) (name : List ℕ) → a ≡ Some name → All P (listed a ++ listed b) → P name
+first_listed P None b name e all = absurd (cc)
+first_listed P (Some x) b name e all = let same : x ≡ name = cc in subst P same (All-head P x (listed b) all)
 
--- a check takes two or four words behind its name
-pub check_of_two_or_four : (ws : List (List ℕ)) → length ws ≢ 2 → length ws ≢ 4 → asked_check ws ≡ None
-check_of_two_or_four [] h k = refl
-check_of_two_or_four (a ∷ []) h k = refl
-check_of_two_or_four (a ∷ b ∷ []) h k = absurd (h refl)
-check_of_two_or_four (a ∷ b ∷ c ∷ []) h k = refl
-check_of_two_or_four (a ∷ b ∷ c ∷ d ∷ []) h k = absurd (k refl)
-check_of_two_or_four (a ∷ b ∷ c ∷ d ∷ e ∷ ws) h k = refl
+second_listed : (P : List ℕ → Type 0) (a b : Option (List ℕ)) (name : List ℕ) → b ≡ Some name → All P (listed a ++ listed b) → P name
+second_listed P a None name e all = absurd (cc)
+second_listed P None (Some y) name e all = let same : y ≡ name = cc in subst P same (All-head P y [] all)
+second_listed P (Some x) (Some y) name e all = let same : y ≡ name = cc in subst P same (All-head P y [] (All-tail P x (y ∷ []) all))
+
+-- what holds of all files that are read holds of each that a query has
+pub named_file : (P : List ℕ → Type 0) (query : Asked) (which : Which) (name : List ℕ) → name_of query which ≡ Some name → All P (read_in_order query) → P name
+named_file P query Graph name e all = first_listed P (name_of query Graph) (name_of query Witness) name e all
+named_file P query Witness name e all = second_listed P (name_of query Graph) (name_of query Witness) name e all

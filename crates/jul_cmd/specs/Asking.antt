@@ -1,16 +1,36 @@
--- A query stands for what the words ask for.
-use Rattle.std.specs.Prelude.{◌≡◌, Option, Some, None}
+-- A query of the code stands for what the words ask for. The answer depends on nothing else of it.
+use Rattle.std.specs.Prelude.{◌≡◌, ℕ, List, [], ◌∷◌, Option, Some, None}
+use Rattle.std.specs.Option.{option_map}
 use Rattle.jul_cmd.specs.declared.queries.Query.{Query}
-use Rattle.jul_cmd.specs.declared.queries.Task.{Task}
-use Rattle.jul_cmd.specs.declared.queries.Task.TheVariants.{Distances, Check}
-use Rattle.jul_cmd.specs.Queries.{Work, distances, check, Asked}
+use Rattle.jul_cmd.specs.declared.queries.Input.{Input as InputOfQuery}
+use Rattle.jul_cmd.specs.declared.queries.Input.TheVariants.{GraphFile}
+use Rattle.jul_cmd.specs.declared.queries.Problem.{Problem as ProblemOfQuery}
+use Rattle.jul_cmd.specs.declared.queries.Problem.TheVariants.{Distances}
+use Rattle.jul_cmd.specs.declared.queries.Form.{Form as FormOfQuery}
+use Rattle.jul_cmd.specs.declared.queries.Form.TheVariants.{Bare}
+use Rattle.jul_cmd.specs.declared.queries.Work.{Work as WorkOfQuery}
+use Rattle.jul_cmd.specs.declared.queries.Work.TheVariants.{Solve, Check}
+use Rattle.jul_cmd.specs.Queries.{Input, graph_file, Problem, distances, Form, bare, Work, solve, check, Asked}
 
-abbrev pub work_of : Task → Work
-work_of (Distances source) = distances source
-work_of (Check witness source) = check witness.now source
+abbrev pub input_of : InputOfQuery → Input
+input_of (GraphFile name) = graph_file name.now
+
+abbrev pub problem_of : ProblemOfQuery → Problem
+problem_of (Distances source delta) = distances (source ∷ [])
+
+abbrev pub form_of : FormOfQuery → Form
+form_of Bare = bare
+
+-- the sources that the words of a check name
+abbrev pub named_sources : Option ℕ → Option (List ℕ)
+named_sources = option_map (λ source. source ∷ [])
+
+abbrev pub work_of : WorkOfQuery → Work
+work_of (Solve problem form) = solve (problem_of problem) (form_of form)
+work_of (Check witness source) = check witness.now (named_sources source)
 
 abbrev pub asked_by : Query → Asked
-asked_by q = record { graph = q.graph.now; work = work_of q.task }
+asked_by q = record { input = input_of q.input; work = work_of q.work }
 
 abbrev pub IsAsked : Option Query → Option Asked → Type 0
 IsAsked None asked = asked ≡ None

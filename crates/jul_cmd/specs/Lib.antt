@@ -1,7 +1,10 @@
-pub mod Names
 pub mod Statuses
 pub mod Queries
+pub mod Words
 pub mod Asking
+pub mod Files
+pub mod Solving
+pub mod Checking
 pub mod Answers
 pub mod Outcomes
 pub mod Parts

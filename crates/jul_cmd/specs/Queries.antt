@@ -1,79 +1,54 @@
--- The words that the program takes.
-use Rattle.std.specs.Prelude.{ℕ, Bool, true, false, not, ◌&&◌, ◌||◌, List, [], ◌∷◌, Option, Some, None, codes, ◌==◌, if◌then◌else◌}
-use Rattle.std.specs.Option.{option_map}
-use Rattle.std.specs.Str.{bytes_eq}
-use Rattle.jul_text.specs.declared.numerals.Numeral.{Numeral}
-use Rattle.jul_text.specs.declared.numerals.Numeral.TheVariants.{Value, Above, Negative, Bad}
-use Rattle.jul_text.specs.Numerals.{numeral}
-use Rattle.jul_cmd.specs.declared.queries.TheConstants.{MAX_SOURCE}
+-- What is asked: where the graph comes from, and what is to be done with it.
+use Rattle.std.specs.Prelude.{ℕ, List, [], ◌∷◌, ◌++◌, Option, Some, None}
+use Rattle.jul_cmd.specs.declared.statuses.Which.{Which}
+use Rattle.jul_cmd.specs.declared.statuses.Which.TheVariants.{Graph, Witness}
 
--- what is to be done with a graph: distances from a source, or the check of the witness file of a name
+-- where the graph comes from: the file of a name
+pub data Input : Type 0 where
+  graph_file : (name : List ℕ) → Input
+
+-- what is to be found of a graph: the least distances from the nearest of some sources
+pub data Problem : Type 0 where
+  distances : (sources : List ℕ) → Problem
+
+-- how a result is written: bare, which is its first column alone
+pub data Form : Type 0 where
+  bare : Form
+
+-- what is to be done with a graph: a problem is solved and its result written in a form, or the witness file of a name is
+-- checked, where the words may name sources
 pub data Work : Type 0 where
-  distances : (source : ℕ) → Work
-  check : (witness : List ℕ) → (source : ℕ) → Work
+  solve : (problem : Problem) → (form : Form) → Work
+  check : (witness : List ℕ) → (sources : Option (List ℕ)) → Work
 
--- what the words ask for: the name of the graph file, and what is to be done
+-- what the words ask for
 pub record Asked : Type 0 where
-  pub graph : List ℕ
+  pub input : Input
   pub work : Work
 
-abbrev pub is_empty : List ℕ → Bool
-is_empty [] = true
-is_empty (c ∷ cs) = false
+-- the sources that are meant: vertex 0 alone where the words name none
+abbrev pub meant : Option (List ℕ) → List ℕ
+meant None = 0 ∷ []
+meant (Some sources) = sources
 
--- a minus sign alone, or a word that isn't empty and doesn't begin with one
-abbrev pub is_file_name : List ℕ → Bool
-is_file_name [] = false
-is_file_name (c ∷ cs) = not (c == 45) || is_empty cs
+-- ---- the files of a query
 
--- two names that don't both stand for standard input
-abbrev pub are_two_files : List ℕ → List ℕ → Bool
-are_two_files graph witness =
-    is_file_name graph && is_file_name witness && not (bytes_eq graph (codes "-") && bytes_eq witness (codes "-"))
+abbrev pub graph_name : Input → Option (List ℕ)
+graph_name (graph_file name) = Some name
 
-abbrev pub value_of : Numeral → Option ℕ
-value_of (Value v) = Some v
-value_of Above = None
-value_of Negative = None
-value_of Bad = None
+abbrev pub witness_name : Work → Option (List ℕ)
+witness_name (solve problem form) = None
+witness_name (check witness sources) = Some witness
 
--- a source in its range
-abbrev pub source_of : List ℕ → Option ℕ
-source_of word = value_of (numeral word MAX_SOURCE)
+-- the name of the graph file or of the witness file, where a query has one
+abbrev pub name_of : Asked → Which → Option (List ℕ)
+name_of query Graph = graph_name query.input
+name_of query Witness = witness_name query.work
 
--- `--bare --source S FILE`
-abbrev pub search_form : List ℕ → List ℕ → List ℕ → List ℕ → Option Asked
-search_form bare option source graph =
-    if bytes_eq bare (codes "--bare") && bytes_eq option (codes "--source") && is_file_name graph
-    then option_map (λ s. record { graph = graph; work = distances s }) (source_of source)
-    else None
+abbrev pub listed : Option (List ℕ) → List (List ℕ)
+listed None = []
+listed (Some name) = name ∷ []
 
--- `FILE FILE`, with the source that is meant
-abbrev pub check_form : List ℕ → List ℕ → Option ℕ → Option Asked
-check_form graph witness source =
-    if are_two_files graph witness
-    then option_map (λ s. record { graph = graph; work = check witness s }) source
-    else None
-
--- `FILE FILE --source S`
-abbrev pub check_form_from : List ℕ → List ℕ → List ℕ → List ℕ → Option Asked
-check_form_from graph witness option source =
-    if bytes_eq option (codes "--source") then check_form graph witness (source_of source) else None
-
-abbrev pub asked_search : List (List ℕ) → Option Asked
-asked_search (bare ∷ option ∷ source ∷ graph ∷ []) = search_form bare option source graph
-asked_search words = None
-
--- the source is 0 where it is left out
-abbrev pub asked_check : List (List ℕ) → Option Asked
-asked_check (graph ∷ witness ∷ []) = check_form graph witness (Some 0)
-asked_check (graph ∷ witness ∷ option ∷ source ∷ []) = check_form_from graph witness option source
-asked_check words = None
-
--- what the words ask for, or None where they aren't taken: the name of the task, and then its own words
-unfoldable pub asked : List (List ℕ) → Option Asked
-asked (task ∷ words) =
-    if bytes_eq task (codes "wbfs") then asked_search words
-    else if bytes_eq task (codes "check") then asked_check words
-    else None
-asked [] = None
+-- the names of the files of a query, in the order in which they are read
+abbrev pub read_in_order : Asked → List (List ℕ)
+read_in_order query = listed (name_of query Graph) ++ listed (name_of query Witness)

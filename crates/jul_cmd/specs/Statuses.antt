@@ -1,9 +1,14 @@
--- The exit code and the message of each status.
-use Rattle.std.specs.Prelude.{ℕ, List, [], ◌++◌, codes, decimal}
+-- The exit code, the stage and the message of each status.
+use Rattle.std.specs.Prelude.{ℕ, ◌≤◌, List, [], ◌++◌, codes, decimal}
+use Rattle.jul_adj.specs.declared.faults.ReadError.{ReadError}
+use Rattle.jul_adj.specs.declared.faults.ReadError.TheVariants as read_errors
+use Rattle.jul_witness.specs.declared.faults.WitnessError.{WitnessError}
+use Rattle.jul_witness.specs.declared.faults.WitnessError.TheVariants as witness_errors
 use Rattle.jul_cmd.specs.declared.statuses.Status.{Status}
 use Rattle.jul_cmd.specs.declared.statuses.Status.TheVariants.{Done, No, Usage, GraphFault, WitnessFault, SourceRange, SizeDiffers, ReadFault, WriteFault, Memory}
 use Rattle.jul_cmd.specs.declared.statuses.Which.TheVariants.{Graph, Witness}
-use Rattle.jul_cmd.specs.Names.{graph_kind_name, witness_kind_name}
+use Rattle.jul_adj.specs.Names.{kind_name as graph_kind_name}
+use Rattle.jul_witness.specs.Names.{kind_name as witness_kind_name}
 
 abbrev pub code_of : Status → ℕ
 code_of Done = 0
@@ -16,6 +21,34 @@ code_of (SizeDiffers witness graph) = 4
 code_of (ReadFault file) = 5
 code_of WriteFault = 6
 code_of Memory = 7
+
+-- Where the status stands in the one order of answers: 1 once the graph file was read, 2 once the witness file was, 3 at
+-- the sizes, 4 at the sources, 5 once the text was written, 6 where it could not be; 0 for what no file decides.
+abbrev pub stage_of : Status → ℕ
+stage_of Usage = 0
+stage_of (ReadFault file) = 0
+stage_of Memory = 0
+stage_of (GraphFault f) = 1
+stage_of (WitnessFault f) = 2
+stage_of (SizeDiffers witness graph) = 3
+stage_of (SourceRange source n) = 4
+stage_of Done = 5
+stage_of (No vertex reason) = 5
+stage_of WriteFault = 6
+
+-- only after these statuses may anything have been written
+abbrev pub MayWrite : Status → Type 0
+MayWrite status = 5 ≤ stage_of status
+
+-- the status of a graph that wasn't read
+abbrev pub graph_refusal : ReadError → Status
+graph_refusal (read_errors.Bad fault) = GraphFault fault
+graph_refusal read_errors.Memory = Memory
+
+-- the status of a witness that wasn't read
+abbrev pub witness_refusal : WitnessError → Status
+witness_refusal (witness_errors.Bad fault) = WitnessFault fault
+witness_refusal witness_errors.Memory = Memory
 
 abbrev pub usage_text : List ℕ
 usage_text = codes "usage: julienne TASK GRAPH [WITNESS] [--source S] [--delta D] [--open B] [--workers W] [--chunk C] [--bare] [--n N] [--pairs P] [--seed X]\n"

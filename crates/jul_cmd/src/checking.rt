@@ -1,15 +1,17 @@
 //! The task `check`: the verdict on a witness, whoever wrote it.
-ghost use Rattle.std.specs.Prelude.{◌≡◌, Ok, IfOk, IfErr};
+ghost use Rattle.std.specs.Prelude.{◌≡◌, [], ◌∷◌, Ok, IfOk, IfErr};
 ghost use Rattle.jul_base.specs.Graph.{vertices};
 ghost use Rattle.jul_witness.specs.Lawful.{IsLawful};
 ghost use Rattle.jul_check.specs.declared.verdicts.Verdict.TheVariants.{Yes};
-ghost use Rattle.jul_cmd.specs.Names.{reason_name};
-ghost use Rattle.jul_cmd.specs.Answers.{size_of, judged, judged_file, IsBorneOut, verdict_status, verdict_text};
-ghost use Rattle.jul_cmd.specs.Parts.{Judges, HasJudged, IsUnjudged};
+ghost use Rattle.jul_cmd.specs.Queries.{meant};
+ghost use Rattle.jul_cmd.specs.Asking.{named_sources};
+ghost use Rattle.jul_cmd.specs.Checking.{size_of, judged, judged_file, IsBorneOut, verdict_status, verdict_text};
+ghost use Rattle.jul_cmd.specs.Parts.{IsGiven, Judges, HasChecked, IsUnchecked, text_of};
 
 use crate::lines::Line;
 use crate::loading::load_witness;
-use crate::names::name_of_reason;
+use crate::replies::{Reply, Text};
+use crate::sources::check_sources;
 use crate::statuses::Status;
 use jul_base::Shelf;
 use jul_check::{Verdict, check_cores, check_cover, check_distances};
@@ -38,31 +40,25 @@ fn judge_columns(
 ) -> Result<Verdict, Status>
     requires lawful { IsLawful witness.now }
     requires size { size_of witness.now ≡ vertices rows.now }
-    ensures verdict { Judges result (judged rows.now source witness.now) }
-    ensures sound { result ≡ Ok Yes → IsBorneOut rows.now source (Ok witness.now) }
+    ensures verdict { Judges result (judged rows.now (source ∷ []) witness.now) }
+    ensures sound { result ≡ Ok Yes → IsBorneOut rows.now (source ∷ []) (Ok witness.now) }
 {
     let verdict = match witness {
         Witness::Cores(c) => check_cores(alloc, rows, c),
-        Witness::Distances(_) if source >= rows.n() => {
-            return Err(Status::SourceRange {
-                source,
-                n: rows.n(),
-            });
+        Witness::Distances(d) => {
+            check_sources(&[source], rows.n())?;
+            check_distances(alloc, rows, &[source], d)
         }
-        Witness::Distances(d) => check_distances(alloc, rows, &[source], d),
         Witness::Cover(c) => check_cover(alloc, rows, c),
     };
-    match verdict {
-        Ok(verdict) => Ok(verdict),
-        Err(_) => Err(Status::Memory),
-    }
+    Ok(verdict?)
 }
 
 // The verdict on a witness, or why there is none.
 fn judge(alloc: Global, rows: &Rows, source: u32, witness: &Witness) -> Result<Verdict, Status>
     requires { IsLawful witness.now }
-    ensures verdict { Judges result (judged_file rows.now source (Ok witness.now)) }
-    ensures sound { result ≡ Ok Yes → IsBorneOut rows.now source (Ok witness.now) }
+    ensures verdict { Judges result (judged_file rows.now (source ∷ []) (Ok witness.now)) }
+    ensures sound { result ≡ Ok Yes → IsBorneOut rows.now (source ∷ []) (Ok witness.now) }
 {
     let size = witness_size(witness);
     if size != rows.n() {
@@ -74,25 +70,8 @@ fn judge(alloc: Global, rows: &Rows, source: u32, witness: &Witness) -> Result<V
     judge_columns(alloc, rows, source, witness)
 }
 
-/// The verdict on the witness file of this name, or why there is none. The witness is read after the graph.
-pub fn find_verdict<F: Shelf>(
-    alloc: Global,
-    rows: &Rows,
-    name: &str,
-    source: u32,
-    files: &mut F,
-) -> Result<Verdict, Status>
-    ensures found { IfOk result (λ verdict. HasJudged (F.state files.old) (F.state files.new)
-        rows.now name.now source (verdict_status verdict) (verdict_text verdict)) }
-    ensures refused { IfErr result (IsUnjudged (F.state files.old) (F.state files.new)
-        rows.now name.now source) }
-{
-    let witness = load_witness(alloc, name, files)?;
-    judge(alloc, rows, source, &witness)
-}
-
-/// The line of a verdict: `yes`, or `no` with the vertex that fails and its reason.
-pub fn verdict_line(verdict: Verdict) -> Line
+// The line of a verdict: `yes`, or `no` with the vertex that fails and its reason.
+fn verdict_line(verdict: Verdict) -> Line
     ensures { result ≡ verdict_text verdict }
 {
     match verdict {
@@ -101,9 +80,43 @@ pub fn verdict_line(verdict: Verdict) -> Line
             let mut line = Line::of(b"no ");
             line.put_number(u64::from(vertex));
             line.put(b" ");
-            line.put(name_of_reason(reason));
+            line.put(reason.name().as_bytes());
             line.put(b"\n");
             line
         }
     }
+}
+
+// A verdict that is ready to be written.
+fn verdict_reply(verdict: Verdict) -> Reply
+    ensures status { result.status ≡ verdict_status verdict }
+    ensures text { text_of result.text ≡ verdict_text verdict }
+{
+    Reply {
+        status: match verdict {
+            Verdict::Yes => Status::Done,
+            Verdict::No { vertex, reason } => Status::No { vertex, reason },
+        },
+        text: Text::Line(verdict_line(verdict)),
+    }
+}
+
+/// The verdict on the witness file of this name, ready to be written, or why there is none. The witness is read after
+/// the graph, and the source is 0 where the words name none.
+pub fn check<F: Shelf>(
+    alloc: Global,
+    rows: &Rows,
+    name: &str,
+    source: Option<u32>,
+    files: &mut F,
+) -> Result<Reply, Status>
+    ensures found { IfOk result (λ reply. HasChecked (F.state files.old) (F.state files.new)
+        rows.now name.now (meant (named_sources source)) reply.status (text_of reply.text)) }
+    ensures given { IfOk result (λ reply. IsGiven reply.status) }
+    ensures refused { IfErr result (IsUnchecked (F.state files.old) (F.state files.new)
+        rows.now name.now (meant (named_sources source))) }
+{
+    let witness = load_witness(alloc, name, files)?;
+    let verdict = judge(alloc, rows, source.unwrap_or(0), &witness)?;
+    Ok(verdict_reply(verdict))
 }

@@ -5,15 +5,19 @@
 #![tactic(auto)]
 
 mod checking;
+mod distances;
 mod lines;
 mod loading;
 mod messages;
-mod names;
 mod queries;
 mod relaxation;
 mod replies;
+mod resources;
 mod running;
+mod solving;
+mod sources;
 mod statuses;
+mod words;
 
 pub use running::run;
 pub use statuses::{Status, Which};

@@ -1,17 +1,18 @@
 //! The files that a query names.
-ghost use Rattle.std.specs.Prelude.{◌+◌, ◌≤◌, length, IfOk, IfErr};
+ghost use Rattle.std.specs.Prelude.{◌+◌, ◌≤◌, length, Ok, IfOk, IfErr};
 ghost use Rattle.jul_base.specs.declared.limits.TheConstants.{MAX_BYTES};
 ghost use Rattle.jul_base.specs.Loading.{IsLoaded};
 ghost use Rattle.jul_witness.specs.Lawful.{IsLawful};
-ghost use Rattle.jul_cmd.specs.Asking.{asked_by};
-ghost use Rattle.jul_cmd.specs.Parts.{IsUnloaded, GraphRead, IsRefused, WitnessRead, IsUnread};
+ghost use Rattle.jul_cmd.specs.Asking.{input_of};
+ghost use Rattle.jul_cmd.specs.Files.{graph_of_file, witness_of_file, IsRead};
+ghost use Rattle.jul_cmd.specs.Parts.{IsUnloaded, IsGraphUnread, IsWitnessUnread, IsInputRead, IsInputUnread};
 
-use crate::queries::Query;
+use crate::queries::Input;
 use crate::statuses::{Status, Which};
-use jul_adj::{ReadError, read_graph};
+use jul_adj::read_graph;
 use jul_base::{LoadError, MAX_BYTES, Shelf, load_all};
 use jul_rows::Rows;
-use jul_witness::{Witness, WitnessError, read_witness};
+use jul_witness::{Witness, read_witness};
 use std::alloc::Global;
 
 // The bytes of the file of this name.
@@ -34,30 +35,36 @@ fn load_text<F: Shelf>(
     }
 }
 
-/// The rows of the graph that a query names, or why there is none. The text of the file is given back.
-pub fn load_rows<F: Shelf>(alloc: Global, query: Query<'_>, files: &mut F) -> Result<Rows, Status>
-    ensures rows { IfOk result (GraphRead (F.state files.old) (F.state files.new) query.entry.graph.now) }
-    ensures refused { IfErr result (IsRefused (asked_by query.entry) (F.state files.old) (F.state files.new)) }
+// The rows of the graph in the file of this name, or why there is none. The text of the file is given back.
+fn load_graph<F: Shelf>(alloc: Global, name: &str, files: &mut F) -> Result<Rows, Status>
+    ensures rows { IfOk result (λ rows.
+        IsRead graph_of_file (F.state files.old) (F.state files.new) name.now (Ok rows)) }
+    ensures refused { IfErr result (IsGraphUnread (F.state files.old) (F.state files.new) name.now) }
     ensures faults { (F.state files.old).faults ≤ (F.state files.new).faults }
 {
-    let bytes = load_text(alloc, query.graph, Which::Graph, files)?;
-    match read_graph(alloc, bytes.as_slice(), MAX_BYTES) {
-        Ok(raw) => Ok(Rows::of(raw)),
-        Err(ReadError::Bad(fault)) => Err(Status::GraphFault(fault)),
-        Err(ReadError::Memory) => Err(Status::Memory),
+    let bytes = load_text(alloc, name, Which::Graph, files)?;
+    let graph = read_graph(alloc, bytes.as_slice(), MAX_BYTES)?;
+    Ok(Rows::of(graph))
+}
+
+/// The rows of the graph that an input stands for, or why there is none.
+pub fn load_input<F: Shelf>(alloc: Global, input: Input<'_>, files: &mut F) -> Result<Rows, Status>
+    ensures rows { IfOk result (IsInputRead (input_of input.entry) (F.state files.old) (F.state files.new)) }
+    ensures refused { IfErr result (IsInputUnread (input_of input.entry) (F.state files.old) (F.state files.new)) }
+    ensures faults { (F.state files.old).faults ≤ (F.state files.new).faults }
+{
+    match input {
+        Input::GraphFile(name) => load_graph(alloc, name, files),
     }
 }
 
 /// The witness of the file of this name, or why there is none. The text of the file is given back.
 pub fn load_witness<F: Shelf>(alloc: Global, name: &str, files: &mut F) -> Result<Witness, Status>
-    ensures witness { IfOk result (WitnessRead (F.state files.old) (F.state files.new) name.now) }
+    ensures witness { IfOk result (λ witness.
+        IsRead witness_of_file (F.state files.old) (F.state files.new) name.now (Ok witness)) }
     ensures lawful { IfOk result IsLawful }
-    ensures refused { IfErr result (IsUnread (F.state files.old) (F.state files.new) name.now) }
+    ensures refused { IfErr result (IsWitnessUnread (F.state files.old) (F.state files.new) name.now) }
 {
     let bytes = load_text(alloc, name, Which::Witness, files)?;
-    match read_witness(alloc, bytes.as_slice(), MAX_BYTES) {
-        Ok(witness) => Ok(witness),
-        Err(WitnessError::Bad(fault)) => Err(Status::WitnessFault(fault)),
-        Err(WitnessError::Memory) => Err(Status::Memory),
-    }
+    Ok(read_witness(alloc, bytes.as_slice(), MAX_BYTES)?)
 }

@@ -5,7 +5,6 @@ ghost use Rattle.jul_cmd.specs.Outcomes.{WroteOrFailed};
 ghost use Rattle.jul_cmd.specs.declared.statuses.Status.TheVariants.{SourceRange, SizeDiffers};
 
 use crate::lines::Line;
-use crate::names::{name_of_graph_kind, name_of_witness_kind};
 use crate::statuses::{Status, Which};
 use jul_base::{Sink, write_whole};
 
@@ -61,13 +60,13 @@ fn message(status: &Status) -> Line
         Status::Usage => Line::of(USAGE),
         Status::GraphFault(fault) => fault_line(
             b"graph",
-            name_of_graph_kind(fault.kind),
+            fault.kind.name().as_bytes(),
             fault.token,
             fault.at,
         ),
         Status::WitnessFault(fault) => fault_line(
             b"witness",
-            name_of_witness_kind(fault.kind),
+            fault.kind.name().as_bytes(),
             fault.token,
             fault.at,
         ),

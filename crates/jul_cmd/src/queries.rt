@@ -1,150 +1,147 @@
-//! The words that the program takes, read by hand.
-ghost use Rattle.std.specs.Prelude.{◌≡◌, ◌&&◌, not, map, codes, string_bytes};
-ghost use Rattle.std.specs.Str.{bytes_eq};
-ghost use Rattle.jul_cmd.specs.Queries.{asked, asked_search, asked_check, source_of, is_file_name, are_two_files};
-ghost use Rattle.jul_cmd.specs.Queries.{search_form, check_form, check_form_from};
-ghost use Rattle.jul_cmd.specs.Asking.{IsAsked};
+//! What the words ask for.
+ghost use Rattle.std.specs.Prelude.{◌≡◌, map, string_bytes, MatchOption, Some, None};
+ghost use Rattle.jul_cmd.specs.Words.{asked, asked_wbfs, asked_delta, asked_distances, asked_check, asked_sources, asked_files};
+ghost use Rattle.jul_cmd.specs.Asking.{IsAsked, named_sources};
 
-use jul_text::{Numeral, read_number};
+use crate::words::{take_file, take_option, take_word};
 
 /// The greatest source that is read as a number.
-pub const MAX_SOURCE: u64 = 4_294_967_295;
+pub const MAX_SOURCE: u32 = 4_294_967_295;
 
-/// What is to be done with a graph.
+/// The greatest delta.
+pub const MAX_DELTA: u32 = 4_294_967_295;
+
+/// Where the graph comes from.
 #[derive(Clone, Copy)]
-pub enum Task<'a> {
-    /// The least distances from a source, as a bare text.
+pub enum Input<'a> {
+    /// The file of a name, or `-` for standard input.
+    GraphFile(&'a str),
+}
+
+/// What is to be found of a graph.
+#[derive(Clone, Copy)]
+pub enum Problem {
+    /// The least distances from a source.
     Distances {
         /// The source vertex.
         source: u32,
+        /// The width of a bucket of distances, from 1. The answer doesn't depend on it.
+        delta: u32,
     },
-    /// The check of a witness.
+}
+
+/// How a result is written.
+#[derive(Clone, Copy)]
+pub enum Form {
+    /// Its first column alone.
+    Bare,
+}
+
+/// What is to be done with a graph.
+#[derive(Clone, Copy)]
+pub enum Work<'a> {
+    /// A problem is solved, and its result is written in a form.
+    Solve(Problem, Form),
+    /// A witness is checked.
     Check {
         /// The name of the witness file, or `-` for standard input.
         witness: &'a str,
-        /// The source vertex, where the witness has distances.
-        source: u32,
+        /// The source vertex, where the words name one.
+        source: Option<u32>,
     },
 }
 
 /// What the words ask for.
 #[derive(Clone, Copy)]
 pub struct Query<'a> {
-    /// The name of the graph file, or `-` for standard input.
-    pub graph: &'a str,
-    /// What is to be done with the graph.
-    pub task: Task<'a>,
+    /// Where the graph comes from.
+    pub input: Input<'a>,
+    /// What is to be done with it.
+    pub work: Work<'a>,
 }
 
-// A minus sign alone, or a word that isn't empty and doesn't begin with one.
-fn may_be_file(word: &str) -> bool
-    ensures { result ≡ is_file_name word.now }
+// The least distances from a source, as a bare text, in the graph that the last word names.
+fn parse_distances(words: &[String], source: u32, delta: u32) -> Option<Query<'_>>
+    ensures { IsAsked result (asked_distances source (map string_bytes words.now)) }
 {
-    match word.as_bytes() {
-        [] => false,
-        [b'-', rest @ ..] => rest.is_empty(),
-        _ => true,
-    }
-}
-
-// The names of two files that aren't both standard input.
-fn may_be_files(graph: &str, witness: &str) -> bool
-    ensures { result ≡ are_two_files graph.now witness.now }
-{
-    may_be_file(graph) && may_be_file(witness) && !(graph == "-" && witness == "-")
-}
-
-fn parse_source(word: &str) -> Option<u32>
-    ensures { result ≡ source_of word.now }
-{
-    match read_number(word.as_bytes(), MAX_SOURCE) {
-        Numeral::Value(source) => Some(source as u32),
-        _ => None,
-    }
-}
-
-fn search_query<'a>(bare: &str, option: &str, source: &str, graph: &'a str) -> Option<Query<'a>>
-    ensures { IsAsked result (search_form bare.now option.now source.now graph.now) }
-{
-    if bare != "--bare" || option != "--source" || !may_be_file(graph) {
+    let (graph, rest) = take_file(words)?;
+    if !rest.is_empty() {
         return None;
     }
-    let source = parse_source(source)?;
     Some(Query {
-        graph,
-        task: Task::Distances { source },
+        input: Input::GraphFile(graph),
+        work: Work::Solve(Problem::Distances { source, delta }, Form::Bare),
     })
 }
 
+// `--bare --source S FILE`: the buckets of the weighted breadth-first search are 1 wide.
+fn parse_wbfs(words: &[String]) -> Option<Query<'_>>
+    ensures { IsAsked result (asked_wbfs (map string_bytes words.now)) }
+{
+    let words = take_word(words, "--bare")?;
+    let (source, words) = take_option(words, "--source", 0, MAX_SOURCE)?;
+    parse_distances(words, source, 1)
+}
+
+// `--bare --source S --delta D FILE`.
+fn parse_delta(words: &[String]) -> Option<Query<'_>>
+    ensures { IsAsked result (asked_delta (map string_bytes words.now)) }
+{
+    let words = take_word(words, "--bare")?;
+    let (source, words) = take_option(words, "--source", 0, MAX_SOURCE)?;
+    let (delta, words) = take_option(words, "--delta", 1, MAX_DELTA)?;
+    parse_distances(words, source, delta)
+}
+
+// Nothing, or `--source S`.
+fn parse_sources(words: &[String]) -> Option<Option<u32>>
+    ensures { MatchOption result (asked_sources (map string_bytes words.now) ≡ None)
+        (λ source. asked_sources (map string_bytes words.now) ≡ Some (named_sources source)) }
+{
+    if words.is_empty() {
+        return Some(None);
+    }
+    let (source, rest) = take_option(words, "--source", 0, MAX_SOURCE)?;
+    if !rest.is_empty() {
+        return None;
+    }
+    Some(Some(source))
+}
+
+// Two files that aren't both standard input.
 fn check_query<'a>(graph: &'a str, witness: &'a str, source: Option<u32>) -> Option<Query<'a>>
-    ensures { IsAsked result (check_form graph.now witness.now source) }
+    ensures { IsAsked result (asked_files graph.now witness.now (named_sources source)) }
 {
-    if !may_be_files(graph, witness) {
+    if graph == "-" && witness == "-" {
         return None;
     }
-    let source = source?;
     Some(Query {
-        graph,
-        task: Task::Check { witness, source },
+        input: Input::GraphFile(graph),
+        work: Work::Check { witness, source },
     })
 }
 
-// The words of a search behind its name: `--bare --source S FILE`.
-fn parse_search(words: &[String]) -> Option<Query<'_>>
-    ensures { IsAsked result (asked_search (map string_bytes words.now)) }
-{
-    if words.len() != 4 {
-        return None;
-    }
-    search_query(
-        words[0].as_str(),
-        words[1].as_str(),
-        words[2].as_str(),
-        words[3].as_str(),
-    )
-}
-
-fn check_query_from<'a>(
-    graph: &'a str,
-    witness: &'a str,
-    option: &str,
-    source: &str,
-) -> Option<Query<'a>>
-    ensures { IsAsked result (check_form_from graph.now witness.now option.now source.now) }
-{
-    if option != "--source" {
-        return None;
-    }
-    check_query(graph, witness, parse_source(source))
-}
-
-// The words of a check behind its name: `FILE FILE` or `FILE FILE --source S`.
+// `FILE FILE` or `FILE FILE --source S`.
 fn parse_check(words: &[String]) -> Option<Query<'_>>
     ensures { IsAsked result (asked_check (map string_bytes words.now)) }
 {
-    if words.len() == 2 {
-        return check_query(words[0].as_str(), words[1].as_str(), Some(0));
-    }
-    if words.len() != 4 {
-        return None;
-    }
-    check_query_from(
-        words[0].as_str(),
-        words[1].as_str(),
-        words[2].as_str(),
-        words[3].as_str(),
-    )
+    let (graph, words) = take_file(words)?;
+    let (witness, words) = take_file(words)?;
+    let source = parse_sources(words)?;
+    check_query(graph, witness, source)
 }
 
-/// What the words after the program's name ask for, or None where they are not taken.
+/// What the words after the program's name ask for, or None where they are not taken. Takes no memory.
 ///
-/// The forms are `wbfs --bare --source S FILE`, `check FILE FILE` and `check FILE FILE --source S`. Takes no memory.
+/// The forms are `wbfs --bare --source S FILE`, `delta --bare --source S --delta D FILE`, `check FILE FILE` and
+/// `check FILE FILE --source S`.
 pub fn parse_words(words: &[String]) -> Option<Query<'_>>
     ensures { IsAsked result (asked (map string_bytes words.now)) }
 {
     let (task, rest) = words.split_first()?;
     match task.as_str() {
-        "wbfs" => parse_search(rest),
+        "wbfs" => parse_wbfs(rest),
+        "delta" => parse_delta(rest),
         "check" => parse_check(rest),
         _ => None,
     }

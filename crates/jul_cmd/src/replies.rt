@@ -2,42 +2,40 @@
 ghost use Rattle.std.specs.Prelude.{◌≡◌, ◌≤◌, OnOk, OnErr};
 ghost use Rattle.jul_base.specs.Sinks.{Appended, FailedWriting};
 
-use crate::checking::verdict_line;
+use crate::lines::Line;
 use crate::statuses::Status;
 use jul_base::{Column, Failed, Sink, write_whole};
-use jul_check::Verdict;
 use jul_witness::write_bare;
+
+/// The text of an answer.
+#[derive(Drop)]
+pub enum Text {
+    /// A column, as a bare text.
+    Bare(Column),
+    /// One line.
+    Line(Line),
+}
 
 /// An answer that is ready to be written.
 #[derive(Drop)]
-pub enum Reply {
-    /// A column, as a bare text.
-    Bare(Column),
-    /// What the checker says.
-    Checked(Verdict),
+pub struct Reply {
+    /// The status of a run whose text was written whole.
+    pub status: Status,
+    /// The text.
+    pub text: Text,
 }
 
-impl Reply {
-    ghost use Rattle.jul_cmd.specs.Parts.{status_of, text_of};
+impl Text {
+    ghost use Rattle.jul_cmd.specs.Parts.{text_of};
 
-    /// The status of a run whose reply was written whole.
-    pub fn status(&self) -> Status
-        ensures { result ≡ status_of self.now }
-    {
-        match *self {
-            Reply::Bare(_) | Reply::Checked(Verdict::Yes) => Status::Done,
-            Reply::Checked(Verdict::No { vertex, reason }) => Status::No { vertex, reason },
-        }
-    }
-
-    /// Writes the text of the reply. After `Failed` a part of it was appended that isn't the whole. Takes no memory.
+    /// Writes the text. After `Failed` a part of it was appended that isn't the whole. Takes no memory.
     pub fn write<O: Sink>(&self, out: &mut O) -> Result<(), Failed>
         ensures ok { OnOk result (Appended (O.state out.old) (O.state out.new) (text_of self.now)) }
         ensures err { OnErr result (FailedWriting (O.state out.old) (O.state out.new) (text_of self.now)) }
     {
         match self {
-            Reply::Bare(column) => write_bare(out, column.as_slice()),
-            Reply::Checked(verdict) => write_whole(out, verdict_line(*verdict).as_slice()),
+            Text::Bare(column) => write_bare(out, column.as_slice()),
+            Text::Line(line) => write_whole(out, line.as_slice()),
         }
     }
 }

@@ -1,9 +1,12 @@
 //! How a run ends.
 ghost use Rattle.std.specs.Prelude.{◌≡◌};
+ghost use Rattle.jul_cmd.specs.declared.statuses.Status.TheVariants.{Memory};
+ghost use Rattle.jul_cmd.specs.Statuses.{graph_refusal, witness_refusal};
 
-use jul_adj::Fault;
+use jul_adj::{Fault, ReadError};
 use jul_check::Reason;
-use jul_witness::WitnessFault;
+use jul_witness::{WitnessError, WitnessFault};
+use std::alloc::AllocError;
 
 /// A file that the words name.
 #[derive(Clone, Copy, Debug, PartialEq, Eq)]
@@ -73,6 +76,36 @@ impl Status {
             Status::ReadFault { .. } => 5,
             Status::WriteFault => 6,
             Status::Memory => 7,
+        }
+    }
+}
+
+impl From<AllocError> for Status {
+    ghost from_gives = { λ _ status. status ≡ Memory };
+
+    fn from(_e: AllocError) -> Status {
+        Status::Memory
+    }
+}
+
+impl From<ReadError> for Status {
+    ghost from_gives = { λ error status. status ≡ graph_refusal error };
+
+    fn from(error: ReadError) -> Status {
+        match error {
+            ReadError::Bad(fault) => Status::GraphFault(fault),
+            ReadError::Memory => Status::Memory,
+        }
+    }
+}
+
+impl From<WitnessError> for Status {
+    ghost from_gives = { λ error status. status ≡ witness_refusal error };
+
+    fn from(error: WitnessError) -> Status {
+        match error {
+            WitnessError::Bad(fault) => Status::WitnessFault(fault),
+            WitnessError::Memory => Status::Memory,
         }
     }
 }

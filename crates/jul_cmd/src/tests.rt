@@ -48,7 +48,11 @@ fn trial_of<'a>(words: &'a [&'a str], files: &'a [(&'a str, &'a str)]) -> Trial<
     }
 }
 
-fn outcome_of<R: Threads>(rt: &R, alloc: Global, trial: &Trial<'_>) -> Result<Outcome, AllocError> {
+fn outcome_of<R: Threads + Sync>(
+    rt: &R,
+    alloc: Global,
+    trial: &Trial<'_>,
+) -> Result<Outcome, AllocError> {
     let mut words = Vec::new(alloc);
     for word in trial.words {
         words.push(String::from_str(alloc, word)?)?;
@@ -95,6 +99,18 @@ fn least_distances_are_written(rt: HostRuntime) -> Result<(), Fail> {
         assert_eq!(rt; outcome.status, Status::Done, "{file}");
         assert_eq!(rt; outcome.out.as_slice(), text.as_bytes(), "{file}");
         assert_eq!(rt; outcome.err.len(), 0, "{file}");
+    }
+    Ok(())
+}
+
+#[test]
+fn a_width_of_buckets_changes_no_distance(rt: HostRuntime) -> Result<(), Fail> {
+    for delta in ["1", "3", "4294967295"] {
+        let words = ["delta", "--bare", "--source", "0", "--delta", delta, "g"];
+        let outcome = outcome_of(&rt, rt.alloc(), &trial_of(&words, &[("g", TWO_WAYS)]))?;
+        assert_eq!(rt; outcome.status, Status::Done, "{delta}");
+        assert_eq!(rt; outcome.out.as_slice(), b"0\n3\n1\n".as_slice(), "{delta}");
+        assert_eq!(rt; outcome.err.len(), 0, "{delta}");
     }
     Ok(())
 }
@@ -233,6 +249,10 @@ fn other_words_are_not_taken(rt: HostRuntime) -> Result<(), Fail> {
         ["check", "g", "--source"].as_slice(),
         ["check", "--source", "0", "g", "w"].as_slice(),
         ["wbfs", "--bare", "--source", "4294967296", "g"].as_slice(),
+        ["wbfs", "--bare", "--source", "0", "g", "w"].as_slice(),
+        ["delta", "--bare", "--source", "0", "--delta", "0", "g"].as_slice(),
+        ["delta", "--bare", "--delta", "1", "--source", "0", "g"].as_slice(),
+        ["delta", "--bare", "--source", "0", "g"].as_slice(),
     ] {
         let outcome = outcome_of(&rt, rt.alloc(), &trial_of(words, &[("g", TWO_WAYS)]))?;
         assert_eq!(rt; outcome.status, Status::Usage);

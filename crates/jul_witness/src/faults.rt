@@ -1,8 +1,10 @@
 //! What may be wrong with a witness file, and why one was not read.
-ghost use Rattle.std.specs.Prelude.{◌≡◌};
+ghost use Rattle.std.specs.Prelude.{◌≡◌, ◌≤◌, length};
+ghost use Rattle.jul_witness.specs.Names.{kind_name};
 ghost use Rattle.jul_witness.specs.declared.faults.WitnessError.TheVariants.{Bad, Memory};
 
 use std::alloc::{AllocError, AllocFailed};
+use std::fmt;
 use thiserror::Error;
 
 /// What is wrong with a witness file.
@@ -18,6 +20,32 @@ pub enum WitnessKind {
     Trailing,
     /// The file is longer than the limit.
     TooLong,
+}
+
+impl WitnessKind {
+    /// The name of the kind, as messages have it. Takes no memory.
+    pub fn name(self) -> &'static str
+        ensures text { result.now ≡ kind_name self }
+        ensures short { length result.now ≤ 15 }
+    {
+        match self {
+            WitnessKind::Header => "Header",
+            WitnessKind::Number => "Number",
+            WitnessKind::Truncated => "Truncated",
+            WitnessKind::Trailing => "Trailing",
+            WitnessKind::TooLong => "TooLong",
+        }
+    }
+}
+
+impl fmt::Display for WitnessKind {
+    ghost use Rattle.std.specs.Prelude.{Some};
+
+    ghost output = { λ x. Some (kind_name x) };
+
+    fn fmt<W: fmt::Write>(&self, f: &mut fmt::Formatter<W>) -> fmt::Result {
+        f.write_str(self.name())
+    }
 }
 
 /// The first fault of a witness file.
