@@ -32,6 +32,7 @@ pub(crate) struct RankQueue {
     pub start: u64,
     /// The rank of near list 0.
     pub base: u64,
+    /// At most as many as open buckets.
     pub near_count: u32,
     /// No near list from here on has a copy that is owed.
     pub end: usize,
