@@ -13,7 +13,7 @@ ghost use Rattle.jul_bucket.specs.QueueViews.{ranked_of, IsQueue};
 use crate::copies::{clear_lists, find_level, find_open};
 use crate::gathering::{Taken, take_out, taken_of};
 use crate::levels::{first_bounds, next_bounds};
-use crate::limits::{BOUNDS, LEVELS};
+use crate::limits::{BOUNDS, LEVELS, NEAR_LISTS};
 use crate::orders::Order;
 use crate::putting::{put_ids, put_moves, set_ranks, spread};
 use jul_base::NONE;
@@ -30,6 +30,10 @@ pub(crate) struct RankQueue {
     pub ranks: Vec<u64>,
     pub front: u64,
     pub start: u64,
+    /// The rank of near list 0.
+    pub base: u64,
+    /// At most as many as open buckets.
+    pub near_count: u32,
     /// No near list from here on has a copy that is owed.
     pub end: usize,
     pub bounds: [u64; BOUNDS],
@@ -50,8 +54,13 @@ impl RankQueue {
         ensures queue { IfOk result IsQueue }
     {
         let front = first_front(ranks.as_slice());
-        let bounds = first_bounds(front, open_count);
-        let mut near = empty_lists(alloc, open_count as usize)?;
+        let near_count = if open_count < NEAR_LISTS {
+            open_count
+        } else {
+            NEAR_LISTS
+        };
+        let bounds = first_bounds(front, near_count);
+        let mut near = empty_lists(alloc, near_count as usize)?;
         let mut levels = empty_lists(alloc, LEVELS)?;
         let end = put_ids(ranks.as_slice(), &mut near, &mut levels, &bounds, front)?;
         Ok(RankQueue {
@@ -60,6 +69,8 @@ impl RankQueue {
             ranks,
             front,
             start: front,
+            base: front,
+            near_count,
             end,
             bounds,
             near,
@@ -85,7 +96,7 @@ impl RankQueue {
             &mut self.near,
             &mut self.levels,
             &self.bounds,
-            self.start,
+            self.base,
             self.end,
         )?;
         self.end = end;
@@ -103,9 +114,9 @@ impl RankQueue {
         ensures err { OnErr result (ranked_of self.new ≡ ranked_of self.old) }
         ensures queue { IsQueue self.new }
     {
-        let from = (self.front - self.start) as usize;
+        let from = (self.front - self.base) as usize;
         let ranks = self.ranks.as_slice();
-        if let Some(i) = find_open(ranks, &self.near, self.start, from, self.end) {
+        if let Some(i) = find_open(ranks, &self.near, self.base, from, self.end) {
             return Ok(Some(self.take_near(i)?));
         }
         match find_level(ranks, &self.levels, &self.bounds) {
@@ -117,40 +128,40 @@ impl RankQueue {
     /// Takes out the ids of near list `i`, the first that holds its rank.
     fn take_near(&mut self, i: usize) -> Result<Taken, AllocError>
         requires queue { IsQueue self.old }
-        requires found { IsFirstOpen self.old.ranks.items self.old.near.items self.old.start
-            (self.old.front - self.old.start) self.old.end i }
+        requires found { IsFirstOpen self.old.ranks.items self.old.near.items self.old.base
+            (self.old.front - self.old.base) self.old.end i }
 
         ensures taken { IfOk result (λ t. IsTaken (ranked_of self.old) t (ranked_of self.new)) }
         ensures err { OnErr result (ranked_of self.new ≡ ranked_of self.old) }
         ensures queue { IsQueue self.new }
     {
-        let from = (self.front - self.start) as usize;
-        let rank = self.start + i as u64;
+        let from = (self.front - self.base) as usize;
+        let rank = self.base + i as u64;
         let copies = self.near[i].as_slice();
         let taken = taken_of(self.alloc, self.ranks.as_slice(), copies, rank)?;
         take_out(self.ranks.as_mut_slice(), taken.ids.as_slice(), rank);
         clear_lists(&mut self.near, from, i + 1);
+        self.start = next_start(self.open_count, self.start, rank);
         self.front = rank;
         Ok(taken)
     }
 
     /// Takes out the ids of a rank in a level, where no near list and no level before holds a rank that it is for.
-    /// The start is set, and the level is spread.
+    /// The level is spread over the near lists, which begin at this rank then, and over the levels before it.
     fn take_far(&mut self, level: usize, rank: u64) -> Result<Taken, AllocError>
         requires queue { IsQueue self.old }
-        requires none { (k : ℕ) → self.old.front - self.old.start ≤ k → k < self.old.end
-            → HoldsOpen self.old.ranks.items self.old.near.items self.old.start k → ⊥ }
+        requires none { (k : ℕ) → self.old.front - self.old.base ≤ k → k < self.old.end
+            → HoldsOpen self.old.ranks.items self.old.near.items self.old.base k → ⊥ }
         requires found { IsFirstAt self.old.ranks.items self.old.levels.items self.old.bounds level rank }
 
         ensures taken { IfOk result (λ t. IsTaken (ranked_of self.old) t (ranked_of self.new)) }
         ensures err { OnErr result (ranked_of self.new ≡ ranked_of self.old) }
         ensures queue { IsQueue self.new }
     {
-        let from = (self.front - self.start) as usize;
+        let from = (self.front - self.base) as usize;
         let copies = self.levels[level].as_slice();
         let taken = taken_of(self.alloc, self.ranks.as_slice(), copies, rank)?;
-        let start = next_start(self.open_count, self.start, rank);
-        let bounds = next_bounds(&self.bounds, level, start, self.open_count);
+        let bounds = next_bounds(&self.bounds, level, rank, self.near_count);
         clear_lists(&mut self.near, from, self.end);
         clear_lists(&mut self.levels, 0, level);
         let end = spread(
@@ -161,10 +172,11 @@ impl RankQueue {
             &mut self.near,
             &mut self.levels,
             &bounds,
-            start,
+            rank,
         )?;
         take_out(self.ranks.as_mut_slice(), taken.ids.as_slice(), rank);
-        self.start = start;
+        self.start = next_start(self.open_count, self.start, rank);
+        self.base = rank;
         self.end = end;
         self.bounds = bounds;
         self.front = rank;

@@ -18,11 +18,12 @@ returns-in_err-end-clause-queue c =
     let ids : All (λ (m : ℕ × ℕ). m.0 < length c.args.self.now.ranks.items) c.args.moves.now = c.requires.ids in
     let near = c.in_err-end.ensures.near n ids in
     let levels = c.in_err-end.ensures.levels n ids in
-    let end : IsEnd (length c.args.self.now.near.items) c.args.self.now.start c.args.self.now.end (slice_index c.args.self.now.bounds 0) c.args.self.now.end = record { later = omega arith; few = omega (arith, inv.lists.end_few, inv.lists.near); before = inv.lists.end_near } in
+    let end : IsEnd (length c.args.self.now.near.items) c.args.self.now.base c.args.self.now.end (slice_index c.args.self.now.bounds 0) c.args.self.now.end = record { later = omega arith; few = omega (arith, inv.lists.end_few, inv.lists.near); before = inv.lists.end_near } in
     record {
+      based = inv.based;
       ranked = inv.ranked;
-      lists = AreLists-grown n s.open_count s.start s.end s.end s.bounds s.near.items c.put_moves.new.near.items s.levels.items c.put_moves.new.levels.items inv.lists near levels end;
-      covered = AreCovered-grown n s.start s.end s.end s.ranks.items s.bounds s.near.items c.put_moves.new.near.items s.levels.items c.put_moves.new.levels.items (omega arith) near levels inv.covered;
+      lists = AreLists-grown n s.near_count s.base s.end s.end s.bounds s.near.items c.put_moves.new.near.items s.levels.items c.put_moves.new.levels.items inv.lists near levels end;
+      covered = AreCovered-grown n s.base s.end s.end s.ranks.items s.bounds s.near.items c.put_moves.new.near.items s.levels.items c.put_moves.new.levels.items (omega arith) near levels inv.covered;
     }
 
 pub returns-clause-queue : goal.returns-clause-queue
@@ -41,14 +42,15 @@ returns-clause-queue c =
     let late : All (λ (m : ℕ × ℕ). m.1 ≢ NONE → c.args.self.now.front ≤ turn c.args.order m.1) c.args.moves.now = c.requires.late in
     let near = c.in_ok-end.ensures.near n ids in
     let levels = c.in_ok-end.ensures.levels n ids in
-    let lists : Lists = record { start = c.args.self.now.start; end = c.in_ok-end.end; bounds = c.args.self.now.bounds; near = c.put_moves.new.near.items; levels = c.put_moves.new.levels.items } in
-    let grown : AreCovered c.args.self.now.ranks.items lists = AreCovered-grown n s.start s.end c.in_ok-end.end s.ranks.items s.bounds s.near.items c.put_moves.new.near.items s.levels.items c.put_moves.new.levels.items c.in_ok-end.ensures.end.later near levels inv.covered in
-    let P : ℕ → Type 0 = λ m. AreLists m c.args.self.now.open_count lists in
+    let lists : Lists = record { start = c.args.self.now.base; end = c.in_ok-end.end; bounds = c.args.self.now.bounds; near = c.put_moves.new.near.items; levels = c.put_moves.new.levels.items } in
+    let grown : AreCovered c.args.self.now.ranks.items lists = AreCovered-grown n s.base s.end c.in_ok-end.end s.ranks.items s.bounds s.near.items c.put_moves.new.near.items s.levels.items c.put_moves.new.levels.items c.in_ok-end.ensures.end.later near levels inv.covered in
+    let P : ℕ → Type 0 = λ m. AreLists m c.args.self.now.near_count lists in
     let fits : All (λ r. r ≤ NONE) c.args.self.now.ranks.items = inv.ranked.fits in
     let C : List ℕ → Type 0 = λ l. AreCovered l lists in
     record {
+      based = c.requires.queue.based;
       ranked = IsRanked-set _ order moves _ inv.ranked after (subst (All (λ r. r ≤ NONE)) (sym kept) c.set_ranks.ensures.fits) late;
-      lists = subst P (sym len) (AreLists-grown n s.open_count s.start s.end c.in_ok-end.end s.bounds s.near.items c.put_moves.new.near.items s.levels.items c.put_moves.new.levels.items inv.lists near levels c.in_ok-end.ensures.end);
+      lists = subst P (sym len) (AreLists-grown n s.near_count s.base s.end c.in_ok-end.end s.bounds s.near.items c.put_moves.new.near.items s.levels.items c.put_moves.new.levels.items inv.lists near levels c.in_ok-end.ensures.end);
       covered = subst C (sym after) (λ id lt some.
           set_each (λ i rank. HasCopy lists rank i) order s.ranks.items moves
           (λ i lt' ne. grown i lt' (let le : slice_index c.args.self.now.ranks.items i ≤ NONE = fits i 0 lt' in grind arith))

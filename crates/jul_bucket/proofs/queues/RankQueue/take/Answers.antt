@@ -7,10 +7,10 @@ use Rattle.jul_bucket.proofs.TakingLaws.{fields_of, ids_lent}
 use Rattle.jul_bucket.proofs.queues.RankQueue.take.Goals as goal
 
 -- no near list holds its rank
-no_near : (s : RankQueue) (lent : List ℕ) (o : Option ℕ) → lent ≡ s.ranks.items → o ≡ None → FindsOpen lent s.near.items s.start (s.front - s.start) s.end o
-    → (k : ℕ) → s.front - s.start ≤ k → k < s.end → HoldsOpen s.ranks.items s.near.items s.start k → ⊥
+no_near : (s : RankQueue) (lent : List ℕ) (o : Option ℕ) → lent ≡ s.ranks.items → o ≡ None → FindsOpen lent s.near.items s.base (s.front - s.base) s.end o
+    → (k : ℕ) → s.front - s.base ≤ k → k < s.end → HoldsOpen s.ranks.items s.near.items s.base k → ⊥
 no_near s lent o value is finds =
-    let at_none : FindsOpen s.ranks.items s.near.items s.start (s.front - s.start) s.end None = subst (λ (o : Option ℕ). FindsOpen s.ranks.items s.near.items s.start (s.front - s.start) s.end o) is (subst (λ (l : List ℕ). FindsOpen l s.near.items s.start (s.front - s.start) s.end o) value finds) in
+    let at_none : FindsOpen s.ranks.items s.near.items s.base (s.front - s.base) s.end None = subst (λ (o : Option ℕ). FindsOpen s.ranks.items s.near.items s.base (s.front - s.base) s.end o) is (subst (λ (l : List ℕ). FindsOpen l s.near.items s.base (s.front - s.base) s.end o) value finds) in
     at_none
 
 -- no level holds a rank that it is for
@@ -33,4 +33,4 @@ returns-in-None-clause-taken c =
     let s = c.args.self.now in
     let none = no_near s c.as_slice-ranks.result.now c.find_open.result c.as_slice-ranks.ensures.value c.in_default.is c.find_open.ensures in
     let spent = no_level s c.as_slice-ranks.result.now c.find_level.result c.as_slice-ranks.ensures.value c.in-None.is c.find_level.ensures in
-    (laws.none_held s.open_count s.ranks.items s.front s.start s.end s.bounds s.near.items s.levels.items (fields_of s c.requires) none spent, refl)
+    (laws.none_held s.open_count s.near_count s.ranks.items s.front s.start s.base s.end s.bounds s.near.items s.levels.items (fields_of s c.requires) none spent, refl)
