@@ -1,5 +1,5 @@
 //! A shelf in memory, which fails where a test wants it to.
-ghost use Rattle.std.specs.Prelude.{◌≡◌, ◌⊎◌, ◌+◌, ◌<◌, ◌≤◌, ◌↔◌, ℕ, ◌++◌, ◌^◌, length, take, drop, min, true, false, is_ok, None, Some, IsTrue, IsErr, IfOk, IfSome, IfNone, OnErr, OnOk};
+ghost use Rattle.std.specs.Prelude.{◌≡◌, ◌⊎◌, ◌+◌, ◌<◌, ◌≤◌, ◌↔◌, ℕ, [], ◌++◌, ◌^◌, length, take, drop, min, true, false, is_ok, None, Some, IsTrue, IsErr, IfOk, IfSome, IfNone, OnErr, OnOk};
 ghost use Rattle.std.specs.Option.{option_map};
 ghost use Rattle.jul_base.specs.Sinks.{Rose};
 ghost use Rattle.jul_base.specs.Shelves.{IsMissing, Moves, contents, after_open, after_failed_open, after_read, files_and_last};
@@ -34,16 +34,18 @@ pub struct MemShelf {
 }
 
 impl MemShelf {
+    ghost use Rattle.jul_base.specs.MemoryShelves.{shelf_state, calls_of};
+
     /// A shelf of these files, of which none is open. Takes no memory.
     pub fn new(files: Vec<(String, Vec<u8>)>, most: usize, fails: Vec<u64>) -> MemShelf
         requires { 1 ≤ most }
         ensures files { result.files ≡ files }
         ensures most { result.most ≡ most }
         ensures fails { result.fails ≡ fails }
-        ensures calls { result.calls ≡ 0 }
-        ensures faults { result.faults ≡ 0 }
-        ensures closed { result.current ≡ None }
-        ensures last { result.last ≡ None }
+        ensures calls { calls_of result ≡ 0 }
+        ensures faults { (shelf_state result).faults ≡ 0 }
+        ensures closed { (shelf_state result).is_open ≡ false }
+        ensures told { (shelf_state result).told ≡ Some (record { files = files_of files.items; left = []; last = None }) }
     {
         MemShelf {
             files,
@@ -98,7 +100,7 @@ fn move_bytes(
 }
 
 impl Shelf for MemShelf {
-    ghost use Rattle.jul_base.specs.MemoryShelves.{shelf_state};
+    ghost use Rattle.jul_base.specs.MemoryShelves.{shelf_state, calls_of, HasKept};
 
     ghost state = { shelf_state };
 
@@ -112,17 +114,18 @@ impl Shelf for MemShelf {
         ensures missing { IsMissing (shelf_state self.old) name.now → IsErr result }
         ensures cause { OnErr result (Rose (shelf_state self.old).faults (shelf_state self.new).faults
             ⊎ IsMissing (shelf_state self.old) name.now) }
+        ensures stands { OnOk result ((shelf_state self.new).faults ≡ (shelf_state self.old).faults) }
         ensures faults { (shelf_state self.old).faults ≤ (shelf_state self.new).faults }
 
         // It fails exactly by its list and for an unknown name; only a failure by the list is a fault.
-        ensures fails { IsErr result ↔ ((is_listed self.old.fails.items (call_after self.old.calls) ≡ true)
+        ensures fails { IsErr result ↔ ((is_listed self.old.fails.items (call_after (calls_of self.old)) ≡ true)
             ⊎ (contents (files_of self.old.files.items) name.now ≡ None)) }
-        ensures listed { is_listed self.old.fails.items (call_after self.old.calls) ≡ true →
+        ensures listed { is_listed self.old.fails.items (call_after (calls_of self.old)) ≡ true →
             Rose (shelf_state self.old).faults (shelf_state self.new).faults }
-        ensures unlisted { is_listed self.old.fails.items (call_after self.old.calls) ≡ false →
-            self.new.faults ≡ self.old.faults }
-        ensures call { self.new.calls ≡ call_after self.old.calls }
-        ensures kept { self.new.fails ≡ self.old.fails }
+        ensures unlisted { is_listed self.old.fails.items (call_after (calls_of self.old)) ≡ false →
+            (shelf_state self.new).faults ≡ (shelf_state self.old).faults }
+        ensures call { calls_of self.new ≡ call_after (calls_of self.old) }
+        ensures kept { HasKept self.old self.new }
     {
         self.calls = self.calls.saturating_add(1);
         let found = find_file(&self.files, name);
@@ -149,14 +152,15 @@ impl Shelf for MemShelf {
         ensures err { OnErr result
             (files_and_last (shelf_state self.new).told ≡ files_and_last (shelf_state self.old).told) }
         ensures rose { OnErr result (Rose (shelf_state self.old).faults (shelf_state self.new).faults) }
+        ensures stands { OnOk result ((shelf_state self.new).faults ≡ (shelf_state self.old).faults) }
         ensures faults { (shelf_state self.old).faults ≤ (shelf_state self.new).faults }
 
         // It fails exactly by its list, and moves as much as it may.
-        ensures fails { IsErr result ↔ (is_listed self.old.fails.items (call_after self.old.calls) ≡ true) }
+        ensures fails { IsErr result ↔ (is_listed self.old.fails.items (call_after (calls_of self.old)) ≡ true) }
         ensures moved { IfOk result (λ n. IfSome (shelf_state self.old).told (λ t.
             n ≡ min (length t.left) (min self.old.most (length buf.old)))) }
-        ensures call { self.new.calls ≡ call_after self.old.calls }
-        ensures kept { self.new.fails ≡ self.old.fails }
+        ensures call { calls_of self.new ≡ call_after (calls_of self.old) }
+        ensures kept { HasKept self.old self.new }
     {
         self.calls = self.calls.saturating_add(1);
         if is_to_fail(&self.fails, self.calls) {

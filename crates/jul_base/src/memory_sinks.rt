@@ -1,5 +1,5 @@
 //! A sink in memory, which fails where a test wants it to.
-ghost use Rattle.std.specs.Prelude.{◌≡◌, ◌⊎◌, ◌+◌, ◌<◌, ◌≤◌, ◌↔◌, ℕ, [], length, take, min, true, IsErr, IfOk, OnErr, vec_len, vec_capacity};
+ghost use Rattle.std.specs.Prelude.{◌≡◌, ◌⊎◌, ◌+◌, ◌<◌, ◌≤◌, ◌↔◌, ℕ, [], length, take, min, true, IsErr, IfOk, OnOk, OnErr, vec_len, vec_capacity};
 ghost use Rattle.jul_base.specs.Sinks.{Rose, Appended};
 ghost use Rattle.jul_base.specs.Memory.{call_after, is_listed};
 
@@ -16,12 +16,16 @@ pub struct MemSink {
     pub most: usize,
     /// The numbers of the writes that fail.
     pub fails: Vec<u64>,
+    room: usize,
     calls: u64,
     faults: u64,
     ghost moves: { 1 ≤ most },
+    ghost fits: { room ≤ vec_capacity bytes },
 }
 
 impl MemSink {
+    ghost use Rattle.jul_base.specs.MemorySinks.{sink_state, calls_of, room_of};
+
     /// A sink that writes into `room`, which is empty with a reserved capacity. Takes no memory.
     pub fn new(room: Vec<u8>, most: usize, fails: Vec<u64>) -> MemSink
         requires empty { room.items ≡ [] }
@@ -29,10 +33,12 @@ impl MemSink {
         ensures bytes { result.bytes ≡ room }
         ensures most { result.most ≡ most }
         ensures fails { result.fails ≡ fails }
-        ensures calls { result.calls ≡ 0 }
-        ensures faults { result.faults ≡ 0 }
+        ensures room { room_of result ≡ vec_capacity room }
+        ensures calls { calls_of result ≡ 0 }
+        ensures faults { (sink_state result).faults ≡ 0 }
     {
         MemSink {
+            room: room.capacity(),
             bytes: room,
             most,
             fails,
@@ -43,7 +49,7 @@ impl MemSink {
 }
 
 impl Sink for MemSink {
-    ghost use Rattle.jul_base.specs.MemorySinks.{sink_state};
+    ghost use Rattle.jul_base.specs.MemorySinks.{sink_state, calls_of, room_of, HasKept};
 
     ghost state = { sink_state };
 
@@ -54,18 +60,19 @@ impl Sink for MemSink {
 
         ensures err { OnErr result ((sink_state self.new).written ≡ (sink_state self.old).written) }
         ensures rose { OnErr result (Rose (sink_state self.old).faults (sink_state self.new).faults) }
+        ensures stands { OnOk result ((sink_state self.new).faults ≡ (sink_state self.old).faults) }
         ensures faults { (sink_state self.old).faults ≤ (sink_state self.new).faults }
 
         // It fails exactly by its list and for want of room, and takes as much as it may.
-        ensures fails { IsErr result ↔ ((is_listed self.old.fails.items (call_after self.old.calls) ≡ true)
-            ⊎ (vec_capacity self.old.bytes < vec_len self.old.bytes + min self.old.most (length piece.now))) }
+        ensures fails { IsErr result ↔ ((is_listed self.old.fails.items (call_after (calls_of self.old)) ≡ true)
+            ⊎ (room_of self.old < vec_len self.old.bytes + min self.old.most (length piece.now))) }
         ensures moved { IfOk result (λ n. n ≡ min self.old.most (length piece.now)) }
-        ensures call { self.new.calls ≡ call_after self.old.calls }
-        ensures kept { self.new.fails ≡ self.old.fails }
+        ensures call { calls_of self.new ≡ call_after (calls_of self.old) }
+        ensures kept { HasKept self.old self.new }
     {
         self.calls = self.calls.saturating_add(1);
         let count = piece.len().min(self.most);
-        let is_full = self.bytes.capacity() - self.bytes.len() < count;
+        let is_full = self.room < self.bytes.len() + count;
         if is_full || is_to_fail(&self.fails, self.calls) {
             self.faults = self.faults.saturating_add(1);
             return Err(Failed);

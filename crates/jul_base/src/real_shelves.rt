@@ -1,5 +1,5 @@
 //! Real files and standard input: the trusted edge.
-ghost use Rattle.std.specs.Prelude.{◌||◌, None, is_some};
+ghost use Rattle.std.specs.Prelude.{◌≡◌, ◌||◌, None, is_some, false};
 
 use crate::shelves::Shelf;
 use crate::sinks::Failed;
@@ -18,7 +18,10 @@ pub struct RealShelf<R: Files + Input + Drop> {
 
 impl<R: Files + Input + Drop> RealShelf<R> {
     /// A shelf of which no file is open. Takes no memory.
-    pub fn new(rt: R) -> RealShelf<R> {
+    pub fn new(rt: R) -> RealShelf<R>
+        ensures closed { (⟦<RealShelf<R> as Shelf>⟧.state result).is_open ≡ false }
+        ensures faults { (⟦<RealShelf<R> as Shelf>⟧.state result).faults ≡ 0 }
+    {
         RealShelf {
             rt,
             file: None,

@@ -1,5 +1,5 @@
 //! Standard output and standard error: the trusted edge.
-ghost use Rattle.std.specs.Prelude.{None};
+ghost use Rattle.std.specs.Prelude.{◌≡◌, None};
 
 use crate::sinks::{Failed, Sink};
 use std::io::Write;
@@ -13,7 +13,9 @@ pub struct RealSink<W: Write + Drop> {
 
 impl<W: Write + Drop> RealSink<W> {
     /// A sink that writes to `writer`, as to standard output. Takes no memory.
-    pub fn new(writer: W) -> RealSink<W> {
+    pub fn new(writer: W) -> RealSink<W>
+        ensures { (⟦<RealSink<W> as Sink>⟧.state result).faults ≡ 0 }
+    {
         RealSink { writer, faults: 0 }
     }
 }

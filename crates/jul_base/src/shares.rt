@@ -59,8 +59,8 @@ pub struct Free {
 impl Free {
     /// A root with none out. Takes no memory.
     pub fn root() -> Free
-        ensures root { result.is_root ≡ true }
-        ensures out { result.out ≡ 0 }
+        ensures root { ⟦<Free as Share>⟧.is_root result ≡ true }
+        ensures out { ⟦<Free as Share>⟧.out result ≡ 0 }
     {
         Free {
             is_root: true,

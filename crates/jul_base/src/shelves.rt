@@ -9,7 +9,8 @@ use crate::sinks::Failed;
 /// Files under their names, of which one is open at a time.
 ///
 /// Contracts see the files with their bytes, the bytes left of the open one and the name opened last, where
-/// the shelf tells them; whether a file is open; and a count of faults that never falls. No call changes a file.
+/// the shelf tells them; whether a file is open; and a count of faults, which only a call that fails raises. No call
+/// changes a file.
 pub trait Shelf {
     ghost state: { Self → ShelfState };
 
@@ -24,6 +25,7 @@ pub trait Shelf {
         ensures missing { IsMissing (state self.old) name.now → IsErr result }
         ensures cause { OnErr result (Rose (state self.old).faults (state self.new).faults
             ⊎ IsMissing (state self.old) name.now) }
+        ensures stands { OnOk result ((state self.new).faults ≡ (state self.old).faults) }
         ensures faults { (state self.old).faults ≤ (state self.new).faults };
 
     /// Moves the first bytes that are left into the front of `buf` and answers how many. It answers 0 for a
@@ -39,5 +41,6 @@ pub trait Shelf {
 
         ensures err { OnErr result (files_and_last (state self.new).told ≡ files_and_last (state self.old).told) }
         ensures rose { OnErr result (Rose (state self.old).faults (state self.new).faults) }
+        ensures stands { OnOk result ((state self.new).faults ≡ (state self.old).faults) }
         ensures faults { (state self.old).faults ≤ (state self.new).faults };
 }

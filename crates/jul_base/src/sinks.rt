@@ -1,5 +1,5 @@
 //! Where bytes are written.
-ghost use Rattle.std.specs.Prelude.{◌≡◌, ◌<◌, ◌≤◌, ℕ, length, take, IfOk, OnErr};
+ghost use Rattle.std.specs.Prelude.{◌≡◌, ◌<◌, ◌≤◌, ℕ, length, take, IfOk, OnOk, OnErr};
 ghost use Rattle.jul_base.specs.Sinks.{SinkState, Rose, Appended};
 
 /// A file or a sink failed. Its own count of faults says that it did.
@@ -8,7 +8,7 @@ pub struct Failed;
 
 /// Where bytes are written, a piece at a time.
 ///
-/// Contracts see the bytes written, where the sink tells them, and a count of faults that never falls.
+/// Contracts see the bytes written, where the sink tells them, and a count of faults, which only a call that fails raises.
 pub trait Sink {
     ghost state: { Self → SinkState };
 
@@ -22,5 +22,6 @@ pub trait Sink {
 
         ensures err { OnErr result ((state self.new).written ≡ (state self.old).written) }
         ensures rose { OnErr result (Rose (state self.old).faults (state self.new).faults) }
+        ensures stands { OnOk result ((state self.new).faults ≡ (state self.old).faults) }
         ensures faults { (state self.old).faults ≤ (state self.new).faults };
 }

@@ -5,7 +5,6 @@
 ghost use Rattle.std.specs.Prelude.{◌≡◌, ◌+◌, ◌<◌, length, nat_lt, find, IfOk};
 ghost use Rattle.jul_base.specs.Graph.{vertices, IsLawful};
 ghost use Rattle.jul_base.specs.Sources.{AreSources};
-ghost use Rattle.jul_base.specs.Sets.{has};
 ghost use Rattle.jul_base.specs.Distances.{AreDistances};
 ghost use Rattle.jul_base.specs.Trees.{AreTree};
 ghost use Rattle.jul_check.specs.DistanceChecks.{is_lowerable, is_parent};
