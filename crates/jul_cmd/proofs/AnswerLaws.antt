@@ -1,6 +1,6 @@
 -- The answer of a run, from what its parts found.
-use Rattle.std.proofs.Common.{◌≡◌, ℕ, ◌<◌, ◌≤◌, List, [], ◌∷◌, take, Option, Some, None, Result, Ok, Err, IfSome, IfOk, refl, sym, ◌∙◌, subst, ap, arith, inl, inr}
-use Rattle.std.specs.Option.{option_map, unwrap_or, IsSomeAnd}
+use Rattle.std.proofs.Common.{◌≡◌, ℕ, ◌≤◌, List, [], ◌∷◌, Option, Some, None, Result, Ok, Err, IfSome, IfOk, refl, sym, ◌∙◌, subst, ap, arith, inl, inr}
+use Rattle.std.specs.Option.{option_map, IsSomeAnd}
 use Rattle.std.proofs.lemmas.List.{take_all}
 use Rattle.jul_base.specs.declared.graphs.RawGraph.{RawGraph}
 use Rattle.jul_base.specs.Graph.{vertices}
@@ -8,25 +8,20 @@ use Rattle.jul_base.specs.Sinks.{SinkState, Appended}
 use Rattle.jul_base.specs.Shelves.{ShelfState, Told, File, IsMissing, contents, known_name, after_open, files_and_last}
 use Rattle.jul_base.specs.Loading.{FailedLoading}
 use Rattle.jul_base.proofs.SinkLaws.{Rose-after}
-use Rattle.jul_adj.specs.declared.faults.Fault.{Fault}
 use Rattle.jul_witness.specs.declared.faults.WitnessFault.{WitnessFault as FaultOfWitness}
-use Rattle.jul_witness.specs.declared.witnesses.Witness.{Witness}
-use Rattle.jul_check.specs.declared.verdicts.Verdict.{Verdict}
-use Rattle.jul_check.specs.declared.verdicts.Verdict.TheVariants as verdicts
 use Rattle.jul_cmd.specs.declared.statuses.Status.{Status}
-use Rattle.jul_cmd.specs.declared.statuses.Status.TheVariants.{Done, Usage, GraphFault, WitnessFault, ReadFault, WriteFault, Memory}
+use Rattle.jul_cmd.specs.declared.statuses.Status.TheVariants.{Usage, GraphFault, WitnessFault, ReadFault, WriteFault, Memory}
 use Rattle.jul_cmd.specs.declared.statuses.Which.TheVariants as which
 use Rattle.jul_cmd.specs.declared.replies.Reply.{Reply}
 use Rattle.jul_cmd.specs.Statuses.{stage_of}
 use Rattle.jul_cmd.specs.Queries.{Input, graph_file, Problem, distances, Form, Work, solve, check, meant, witness_name, Asked}
 use Rattle.jul_cmd.specs.Words.{asked}
-use Rattle.jul_cmd.specs.Asking.{named_sources}
-use Rattle.jul_cmd.specs.Files.{graph_of_file, witness_of_file, IsFile, Says, IsOpenedLast, IsAtEnd, IsRead}
+use Rattle.jul_cmd.specs.Files.{graph_of_file, IsFile, IsOpenedLast, IsAtEnd, IsRead}
 use Rattle.jul_cmd.specs.Solving.{IsUnsuited, IsDone, IsSolved}
-use Rattle.jul_cmd.specs.Checking.{IsTold, IsBorneOut, judged_file, IsJudged, IsChecked, verdict_status, verdict_text}
-use Rattle.jul_cmd.specs.Answers.{InputSays, WorkAnswer, Answer}
+use Rattle.jul_cmd.specs.Checking.{IsTold, judged_file, IsChecked}
+use Rattle.jul_cmd.specs.Answers.{InputSays}
 use Rattle.jul_cmd.specs.Outcomes.{IsTooLong, HasRead, read_before, IsAnswer, HasCause, IsUntroubled, IsComplete}
-use Rattle.jul_cmd.specs.Parts.{IsGiven, IsWitnessRefusal, IsRefusal, IsInputRead, IsInputUnread, IsWitnessUnread, IsUnsolved, Judges, HasChecked, IsUnchecked, IsRefused, text_of}
+use Rattle.jul_cmd.specs.Parts.{IsGiven, IsInputRead, IsInputUnread, IsWitnessUnread, IsUnsolved, HasChecked, IsUnchecked, IsRefused, text_of}
 use Rattle.jul_cmd.proofs.SourceLaws.{refusal_stage}
 use Rattle.jul_cmd.proofs.QueryLaws.{named_file}
 use Rattle.jul_cmd.proofs.FileLaws.{graph_to_end, fault_to_end, witness_to_end}

@@ -19,7 +19,7 @@ use Rattle.jul_witness.specs.declared.faults.WitnessError.{WitnessError}
 use Rattle.jul_witness.specs.declared.faults.WitnessError.TheVariants as witness_errors
 use Rattle.jul_witness.specs.Reading.{reads_witness, Fails as WitnessFails}
 use Rattle.jul_cmd.specs.Statuses.{graph_refusal, witness_refusal}
-use Rattle.jul_cmd.specs.Files.{graph_of_file, witness_of_file, IsFile, IsOpenedLast, IsAtEnd, IsRead}
+use Rattle.jul_cmd.specs.Files.{graph_of_file, witness_of_file, IsAtEnd, IsRead}
 use Rattle.jul_cmd.specs.Parts.{IsGraphUnread, IsWitnessUnread}
 
 -- ---- what bytes say, where a file that is too long has a fault of its own

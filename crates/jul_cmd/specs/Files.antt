@@ -1,5 +1,5 @@
 -- What a run reads: what the bytes of a file say, and what stands of the shelf once the file was read.
-use Rattle.std.specs.Prelude.{◌≡◌, ℕ, ◌≤◌, List, [], ◌∷◌, length, Some, Result, Ok, Err, IfSome}
+use Rattle.std.specs.Prelude.{◌≡◌, ℕ, ◌≤◌, List, [], length, Some, Result, IfSome}
 use Rattle.std.specs.Option.{option_map}
 use Rattle.jul_base.specs.declared.graphs.RawGraph.{RawGraph}
 use Rattle.jul_base.specs.declared.limits.TheConstants.{MAX_BYTES}

@@ -72,6 +72,7 @@ fn answer<R: Threads + Sync, G: Gate, F: Shelf, O: Sink>(
 /// A refusal is the first that has its cause: the words, the graph file from front to back, the witness file from
 /// front to back, its size, the source. Its line goes to `err` at the end, and a failing `err` changes no status.
 /// All memory is taken before the first byte goes to `out`. Waits for nobody.
+#[tactic(auto, using(crate::proofs::AnswerLaws::cause_is_complete))]
 pub fn run<R: Threads + Sync, F: Shelf, O: Sink, E: Sink, G: Gate>(
     rt: &R,
     alloc: Global,

@@ -1,4 +1,3 @@
-use Rattle.std.proofs.Common.{subst, sym}
 use Rattle.jul_cmd.specs.Queries.{meant}
 use Rattle.jul_cmd.specs.Asking.{named_sources}
 use Rattle.jul_cmd.proofs.VerdictLaws.{at_err}
