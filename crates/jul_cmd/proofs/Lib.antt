@@ -1,4 +1,3 @@
-pub mod RelaxationLaws
 pub mod SourceLaws
 pub mod QueryLaws
 pub mod FileLaws

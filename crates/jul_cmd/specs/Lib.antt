@@ -8,4 +8,3 @@ pub mod Checking
 pub mod Answers
 pub mod Outcomes
 pub mod Parts
-pub mod Relaxation

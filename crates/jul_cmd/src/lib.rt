@@ -10,7 +10,6 @@ mod lines;
 mod loading;
 mod messages;
 mod queries;
-mod relaxation;
 mod replies;
 mod resources;
 mod running;

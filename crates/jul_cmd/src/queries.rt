@@ -25,7 +25,7 @@ pub enum Problem {
     Distances {
         /// The source vertex.
         source: u32,
-        /// The width of a bucket of distances, from 1. The answer doesn't depend on it.
+        /// The width of a bucket of distances; 0 counts as 1. The answer doesn't depend on it.
         delta: u32,
     },
 }

@@ -11,6 +11,9 @@ pub const WORKERS: u32 = 4;
 /// The most members, or vertices, of a chunk of work.
 pub const CHUNK: u32 = 256;
 
+/// How many buckets are open.
+pub const OPEN: u32 = 128;
+
 /// What the engines of a run work with: threads, memory, and how the work is shared.
 #[derive(Drop)]
 pub struct Resources<'r, 'g, R: Threads + Sync, G: Gate> {

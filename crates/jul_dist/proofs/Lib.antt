@@ -1,0 +1,7 @@
+pub mod RelaxLaws
+pub mod AdvanceLaws
+pub mod PlacedLaws
+pub mod SettlingLaws
+pub mod MovingLaws
+pub mod SearchLaws
+pub mod StartLaws

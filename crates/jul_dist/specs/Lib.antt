@@ -1,0 +1,4 @@
+pub mod Relaxing
+pub mod Draws
+pub mod Moving
+pub mod Advancing
