@@ -106,11 +106,22 @@ NOT_TAKEN = [
     ["wbfs", "--bare", "--source", "0", ""],
     ["wbfs", "--bare", "--source", "0", "--bare"],
     [b"wbfs", b"--bare", b"--source", b"0", b"\xff"],
+    ["wbfs", "--bare", "--source", "0", "--delta", "1", "g"],
+    ["delta", "--bare", "--source", "0", "g"],
+    ["delta", "--bare", "--source", "0", "--delta", "0", "g"],
+    ["delta", "--bare", "--source", "0", "--delta", "4294967296", "g"],
+    ["delta", "--bare", "--delta", "1", "--source", "0", "g"],
+    ["delta", "--bare", "--source", "0", "--delta", "1", "g", "g"],
+    ["delta", "--bare", "--source", "0", "--delta", "1"],
 ]
 
 
 def wbfs_words(source, name):
     return [b"wbfs", b"--bare", b"--source", source.encode(), name]
+
+
+def delta_words(source, delta, name):
+    return [b"delta", b"--bare", b"--source", source.encode(), b"--delta", delta, name]
 
 
 def check_words(source, graph, witness):
@@ -140,6 +151,8 @@ def test_graphs(tally, folder):
     for source, text, *wanted in RUNS:
         for name in (b"g", b"-"):
             compare(tally, folder, wbfs_words(source, name), {name: text}, tuple(wanted))
+        for delta in (b"1", b"10", b"0004294967295"):
+            compare(tally, folder, delta_words(source, delta, b"g"), {b"g": text}, tuple(wanted))
 
 
 def test_witnesses(tally, folder):

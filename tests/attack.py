@@ -28,7 +28,7 @@ def odd_words(rng, words):
     if kind == 0:
         del words[at]
     elif kind == 1:
-        words.insert(at, rng.choice([b"", b"-", b"--", b"g", b"--bare", b"--source", b"\xff", b"0"]))
+        words.insert(at, rng.choice([b"", b"-", b"--", b"g", b"--bare", b"--source", b"--delta", b"\xff", b"0"]))
     elif kind == 2:
         words[at] = rng.choice([b"", b"--source", b"wbf", b"CHECK", b"-x", b"00", b"4294967296", b"1e3", b"-1", b"\xc3\x28"])
     elif kind == 3:
@@ -46,6 +46,16 @@ def wbfs_words(rng, source):
     return [b"wbfs", b"--bare", b"--source", number_word(rng, source), name]
 
 
+WIDTHS = [b"1", b"2", b"3", b"10", b"100", b"1000000", b"4294967295", b"0001"]
+ODD_WIDTHS = [b"0", b"00", b"4294967296", b"-1", b"", b"1.5", b"18446744073709551617"]
+
+
+def delta_words(rng, source):
+    words = wbfs_words(rng, source)
+    width = rng.choice(WIDTHS if rng.random() < 0.9 else ODD_WIDTHS)
+    return [b"delta", *words[1:4], b"--delta", width, *words[4:]]
+
+
 # graph and witness of a check
 CHECKED = [[b"g", b"w"]] * 50 + [[b"-", b"w"], [b"g", b"-"]] * 5 + [[b"g", b"g"], [b"w", b"g"], [b"-", b"-"]]
 
@@ -61,7 +71,7 @@ def check_words(rng, source):
 
 
 # how often a task is taken, and its words
-TASKS = [(3, wbfs_words), (8, check_words)]
+TASKS = [(3, wbfs_words), (2, delta_words), (8, check_words)]
 
 
 def random_words(rng, source):

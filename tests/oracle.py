@@ -245,12 +245,18 @@ def is_file_name(word):
     return word != b"" and (word == b"-" or not word.startswith(b"-"))
 
 
+def is_width(word):
+    return is_number(word) and 1 <= value(word) <= 2**32 - 1
+
+
 def query(words):
     """The task, the names of the files and the source, or None where the words aren't taken."""
     if not all(is_text(word) for word in words):
         return None
     if len(words) == 5 and words[:3] == [b"wbfs", b"--bare", b"--source"]:
         task, number, names = b"wbfs", words[3], words[4:]
+    elif len(words) == 7 and words[:3] == [b"delta", b"--bare", b"--source"] and words[4] == b"--delta" and is_width(words[5]):
+        task, number, names = b"delta", words[3], words[6:]
     elif len(words) == 3 and words[0] == b"check":
         task, number, names = b"check", b"0", words[1:]
     elif len(words) == 5 and words[0] == b"check" and words[3] == b"--source":
@@ -268,7 +274,7 @@ def source_range(source, rows):
     return 4, b"", b"source %d is not below %d\n" % (source, len(rows))
 
 
-def wbfs(rows, _, source, __):
+def find_distances(rows, _, source, __):
     if source >= len(rows):
         return source_range(source, rows)
     lines = [b"-" if d is None else b"%d" % d for d in distances(rows, source)]
@@ -290,7 +296,7 @@ def check(rows, names, source, files):
     return code, line, b""
 
 
-TASKS = {b"wbfs": wbfs, b"check": check}
+TASKS = {b"wbfs": find_distances, b"delta": find_distances, b"check": check}
 
 
 def answer(words, files):
