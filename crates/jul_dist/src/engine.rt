@@ -38,7 +38,7 @@ pub struct DistOut {
 
 /// The least distance of each vertex from the nearest of the sources, by delta-stepping. With a `delta` of 1 it is wBFS.
 ///
-/// The words start at 0 for each source and at `NONE` elsewhere, and so do the places of the buckets, which are increasing
+/// `in_rows` is the flip of `rows`, the sources are vertices, and `delta` is at least 1. The words start at 0 for each source and at `NONE` elsewhere, and so do the places of the buckets, which are increasing
 /// and were never drawn from. Nothing was logged in either table. At the end the words are the distances, no vertex is in
 /// a bucket, and the draws show from which bucket each reached vertex came last.
 ///
@@ -97,7 +97,7 @@ pub fn distances<R: Threads + Sync, G: Gate>(
         values.as_mut_slice(),
         buckets,
     )?;
-    // Any bucket at the front is one, by what is true of all buckets: their draws go forward.
+    // With the front comes what is true of buckets between any two calls: their draws never go backward.
     prove!(buckets.front() < NONE);
     Ok(DistOut {
         dist: Column::from_vec(values),
@@ -106,7 +106,8 @@ pub fn distances<R: Threads + Sync, G: Gate>(
     })
 }
 
-/// The same with tables and buckets of its own, of which so many are open.
+/// The same with tables and buckets of its own, of which `open_count` are open, from 1 to 65,536. Memory that runs out is the
+/// only refusal.
 pub fn least_distances<R: Threads + Sync, G: Gate>(
     rt: &R,
     alloc: Global,
