@@ -108,6 +108,11 @@ module _ (g : RawGraph) (lawful : IsLawful g) (sources : List ℕ) where
         stays_so d same zero = refl
         stays_so d same (suc j) = ap (relaxed_times g j) same ∙ stays_so d same j
 
+  -- relaxed any number of times a column stays one of tentative numbers
+  times_tentative : All (Held g) (all_edges g) → (k : ℕ) (dist : List ℕ) → IsTentative g sources dist → IsTentative g sources (relaxed_times g k dist)
+  times_tentative held zero dist t = t
+  times_tentative held (suc k) dist t = times_tentative held k (relaxed_all g (all_edges g) dist) (relaxed_some (all_edges g) dist held t).0
+
 -- ---- all edges are the places of the vertices
 
 module _ (g : RawGraph) (P : Edge → Type 0) where
@@ -149,6 +154,12 @@ held_from g lawful a (suc n) le =
     (held_row g a (omega arith) (row_start g a) (row_end g a - row_start g a) (omega arith) (omega (arith, ordered)))
     (held_from g lawful (a + 1) n (omega arith))
 
+-- where each edge is still, the column is closed
+still_closed : (g : RawGraph) → IsLawful g → (sources dist : List ℕ) → IsTentative g sources dist → All (IsStill g dist) (all_edges g) → IsClosed g dist
+still_closed g lawful sources dist t still u p at some =
+    let le : get_or dist (target g p) 0 ≤ get_or dist u 0 + weight g p = edges_at g (IsStill g dist) 0 (vertices g) u p (omega arith) (omega (arith, at.vertex)) still at in
+    (λ none. absurd (omega (arith, none, le, small g lawful dist t.bounded u at.vertex some, weight-le g lawful p)), le)
+
 -- ---- the list
 
 module _ (g : RawGraph) (lawful : IsLawful g) (sources : List ℕ) (within : All (λ s. s < vertices g) sources) where
@@ -162,10 +173,7 @@ module _ (g : RawGraph) (lawful : IsLawful g) (sources : List ℕ) (within : All
   distance_list-tentative = ended.0
 
   pub distance_list-closed : IsClosed g (distance_list g sources)
-  distance_list-closed u p at some =
-      let dist : List ℕ = distance_list g sources in
-      let le : get_or dist (target g p) 0 ≤ get_or dist u 0 + weight g p = edges_at g (IsStill g dist) 0 (vertices g) u p (omega arith) (omega (arith, at.vertex)) ended.1 at in
-      (λ none. absurd (omega (arith, none, le, small g lawful dist ended.0.bounded u at.vertex some, weight-le g lawful p)), le)
+  distance_list-closed = still_closed g lawful sources (distance_list g sources) ended.0 ended.1
 
   -- the law that ties the list to the relation
   pub distance_list-is : AreDistances g sources (distance_list g sources)
@@ -175,6 +183,17 @@ module _ (g : RawGraph) (lawful : IsLawful g) (sources : List ℕ) (within : All
   -- and any column of the distances is the list
   pub distance_list-unique : (dist : List ℕ) → AreDistances g sources dist → dist ≡ distance_list g sources
   distance_list-unique dist are = AreDistances-unique g sources dist (distance_list g sources) are distance_list-is
+
+  -- a column that all edges relaxed some times give, and that relaxing them once more leaves as it is, has the distances
+  pub relaxed_are_distances : (k : ℕ) (dist : List ℕ) → relaxed_times g k (first_numbers (vertices g) sources) ≡ dist → relaxed_all g (all_edges g) dist ≡ dist → AreDistances g sources dist
+  relaxed_are_distances k dist is stays =
+      let held : All (Held g) (all_edges g) = held_from g lawful 0 (vertices g) (omega arith) in
+      let t : IsTentative g sources dist = subst (IsTentative g sources) is (times_tentative g lawful sources held k (first_numbers (vertices g) sources) (first_tentative g sources within)) in
+      let still : All (IsStill g dist) (all_edges g) = elim (relaxed_some g lawful sources (all_edges g) dist held t).1 [
+        | inl same ↦ same.1
+        | inr falls ↦ absurd (omega (arith, falls, ap sum stays))
+      ] in
+      closed_are_distances g sources dist t.bounded.size t.starts (still_closed g lawful sources dist t still) t.sums
 
 -- ---- how great the distances are
 

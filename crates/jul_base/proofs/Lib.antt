@@ -18,6 +18,7 @@ pub mod RowLaws
 pub mod InRowLaws
 pub mod SymmetryLaws
 pub mod SetLaws
+pub mod ListLaws
 pub mod SmallGraphs
 pub mod PeelLaws
 pub mod RoundRows

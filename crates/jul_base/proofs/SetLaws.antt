@@ -2,7 +2,7 @@
 use Rattle.std.proofs.Common.{◌≡◌, ℕ, zero, suc, ◌+◌, ◌<◌, ◌⊎◌, List, [], ◌∷◌, length, get_or, Bool, true, eqb, sym, ◌∙◌, ap, subst, refl, arith, inl, inr}
 use Rattle.std.specs.List.{filter, Contains, AllPairs}
 use Rattle.std.specs.List.Sorted.{IsStrictlyIncreasing}
-use Rattle.std.proofs.lemmas.Bool.{eq-eqb, eqb-true, cases_Bool}
+use Rattle.std.proofs.lemmas.Bool.{eq-eqb, eqb-true, cases_Bool, both_ways}
 use Rattle.std.proofs.lemmas.List.Elements.{Contains-get_or}
 use Rattle.std.proofs.lemmas.List.Folds.{Any-from_list_any, list_any_at}
 use Rattle.std.proofs.lemmas.List.Kept.{IsStrictlyIncreasing-filter, AllPairs-from_increasing}
@@ -20,6 +20,13 @@ Contains-from_has xs x found =
 
 pub has-from_Contains : (xs : List ℕ) (x : ℕ) → Contains xs x → has xs x ≡ true
 has-from_Contains xs x (k, lt, at) = list_any_at (λ y. eqb y x) xs k x lt (eq-eqb (get_or xs k x) x at)
+
+-- a number is in a list or isn't
+pub member_cases : (xs : List ℕ) (x : ℕ) → Contains xs x ⊎ (Contains xs x → ⊥)
+member_cases xs x = elim (cases_Bool (has xs x)) [
+  | inl there ↦ inl (Contains-from_has xs x there)
+  | inr not' ↦ inr (λ there. both_ways (has xs x) not' (has-from_Contains xs x there))
+]
 
 pub Contains-cons : (y : ℕ) (xs : List ℕ) (x : ℕ) → Contains xs x → Contains (y ∷ xs) x
 Contains-cons y xs x (k, lt, at) = (suc k, omega arith, at)

@@ -2,7 +2,7 @@
 use Rattle.std.proofs.Common.{◌≡◌, ℕ, ◌<◌, ◌≤◌, Bool, true, List, [], ◌∷◌, ◌++◌, map, cond, eqb, refl, sym, ap, ◌∙◌, subst, arith, inl, inr, suc, zero, length}
 use Rattle.std.specs.List.{Contains, All}
 use Rattle.std.proofs.lemmas.Bool.{cases_Bool, cases_lt, eqb-true}
-use Rattle.std.proofs.lemmas.List.Elements.{All-contains, All-append, All-weaker}
+use Rattle.std.proofs.lemmas.List.Elements.{All-contains, All-append, All-weaker, All-map}
 use Rattle.jul_base.specs.declared.graphs.RawGraph.{RawGraph}
 use Rattle.jul_base.specs.Graph.{target, weight, IsPlaceOf, IsLawful}
 use Rattle.jul_base.specs.Logs.{Log, Entry, STAMP}
@@ -10,13 +10,14 @@ use Rattle.jul_base.proofs.RowLaws.{IsPlaceOf-unique}
 use Rattle.jul_base.proofs.SetLaws.{Contains-cons, Contains-cons_cases}
 use Rattle.jul_base.specs.Times.{times}
 use Rattle.jul_pool.specs.Added.{first_part, entries_of}
+use Rattle.jul_pool.proofs.PartLaws.{HasOnePart, one_part}
 use Rattle.jul_words.specs.Weights.{weigh}
 use Rattle.jul_words.specs.Marks.{is_marked}
 use Rattle.jul_words.specs.Seats.{Seat}
 use Rattle.jul_words.specs.Least.{least, Marks}
 use Rattle.jul_words.proofs.Sums.{weigh-append}
 use Rattle.jul_words.proofs.LaterLaws.{fell_marked}
-use Rattle.jul_subset.specs.Applications.{Done, answered_true}
+use Rattle.jul_subset.specs.Applications.{Done, answered_true, AppliedBy}
 use Rattle.jul_edge.specs.declared.functions.Direction.{Direction}
 use Rattle.jul_edge.specs.Edges.{Application, IsWanted, AreWantedOnce, places_of}
 use Rattle.jul_edge.specs.EdgeMaps.{CanStamp, HasStamped}
@@ -140,6 +141,12 @@ entries_have f (x ∷ xs) d (suc k, lt, is) =
     let rest : weigh f (first_part d.added) ≤ weigh f (entries_of (added_of xs)) = entries_have f xs d (k, omega arith, is) in
     omega (arith, rest, weigh-append f (first_part x.added) (entries_of (added_of xs)))
 
+-- the log of a token of one part has the entries of all applications behind it
+pub log_grew : (gives : Application → Bool → Log → Type 0) (old new : List Entry) (done : List EdgeDone) → AppliedBy gives (old ∷ []) (new ∷ []) done →
+    All (λ (d : EdgeDone). length d.added ≤ 1) done → new ≡ old ++ entries_of (added_of done)
+log_grew gives old new done by parts =
+    ap first_part (by.log_is ∙ one_part old (added_of done) (All-map HasOnePart (λ (d : EdgeDone). d.added) done parts))
+
 -- ---- the vertices whose words fell
 
 -- the answer says whether the application's entry is marked, and the entry is of its target
@@ -159,6 +166,16 @@ fell_hit gives tells done each v start old m fell =
     subst (Contains (hits_of done)) told.1 (hit done d by_one.there told.0)
 
 -- ---- rounds
+
+-- a seat that may stamp in a round may as well stamp in a later one
+pub stamps_on : (n : ℕ) (table : List ℕ) (round next : ℕ) (s : Seat) → round ≤ next → CanStamp n table round s → CanStamp n table next s
+stamps_on n table round next s le can = record {
+  of_table = can.of_table;
+  words = can.words;
+  alone = can.alone;
+  some = omega (arith, can.some);
+  above = All-weaker (λ (e : Entry). e.number < round) (λ (e : Entry). e.number < next) (λ e lt. omega (arith, lt)) s.log can.above;
+}
 
 -- the seat may stamp with each later round
 pub stamps_later : (n : ℕ) (table : List ℕ) (round next : ℕ) (by : Direction) (old new : Seat) → round < next → CanStamp n table round old → HasStamped by round old new → CanStamp n table next new

@@ -1,7 +1,8 @@
 //! Functions applied to the edges that leave a subset of vertices: the edge maps of Ligra (Shun, Blelloch, PPoPP 2013).
 //!
 //! Implement `EdgeFn`, and hand it to `edge_map` with a subset. `edge_push` walks the rows of the members, `edge_pull`
-//! the in-rows of the wanted targets, and `edge_map` chooses between them by the size of the work.
+//! the in-rows of the wanted targets, and `edge_map` chooses between them by the size of the work. `edge_map_with_threshold`
+//! leaves to the caller how much work is for a push.
 #![tactic(auto)]
 
 mod functions;
@@ -10,12 +11,14 @@ mod pulling;
 mod pulls;
 mod pushes;
 mod switching;
+mod thresholds;
 
 pub use functions::{Direction, EdgeFn};
 pub use maps::{EdgeOut, PullOut};
 pub use pulls::edge_pull;
 pub use pushes::edge_push;
 pub use switching::edge_map;
+pub use thresholds::{edge_map_with_threshold, reach_of};
 
 #[cfg(test)]
 mod tests;

@@ -11,6 +11,7 @@ use crate::functions::{Direction, EdgeFn};
 use crate::maps::EdgeOut;
 use crate::pulls::edge_pull;
 use crate::pushes::push_list;
+use crate::thresholds::reach_of;
 use jul_base::{Gate, Share};
 use jul_pool::Team;
 use jul_rows::{InRows, Rows};
@@ -121,9 +122,5 @@ fn reaches_far(rows: &Rows, members: &[u32]) -> bool
 
     ensures { result ≡ nat_lt (places rows.now / 20) (reach rows.now members.now) }
 {
-    let mut reach = members.len() as u64;
-    for u in members {
-        reach += u64::from(rows.degree(*u));
-    }
-    u64::from(rows.m() / SHARE_FOR_PULL) < reach
+    u64::from(rows.m() / SHARE_FOR_PULL) < reach_of(rows, members)
 }

@@ -5,7 +5,6 @@ use Rattle.std.proofs.lemmas.Bool.{cases_eq, cases_lt, cases_Bool, both_ways, no
 use Rattle.std.proofs.lemmas.List.{get_or-set_same, get_or-set_other, get_or-replicate, length-set, length-replicate, get_or_past}
 use Rattle.std.proofs.lemmas.List.Elements.{All-contains, All-nil, All-cons, All-from_get_or, Contains-get_or}
 use Rattle.std.proofs.lemmas.List.Sums.{sum_by-set, count_by-le-length}
-use Rattle.std.proofs.Math.Seq.{take-append_seam}
 use Rattle.jul_base.specs.declared.graphs.RawGraph.{RawGraph}
 use Rattle.jul_base.specs.Graph.{vertices, target, weight, IsPlaceOf, IsLawful}
 use Rattle.jul_base.specs.Walks.{IsWalk}
@@ -120,10 +119,6 @@ module _ (g : RawGraph) (lawful : IsLawful g) (source : ℕ) (by : Direction) (m
       ]
     ];
   }
-
--- what a write through a part of a vector leaves
-pub written : (after marks : List Bool) (len : ℕ) → length after ≡ len → take len (after ++ drop (length after) marks) ≡ after
-written after marks len e = ap (λ n. take n (after ++ drop (length after) marks)) (sym e) ∙ take-append_seam after (drop (length after) marks)
 
 -- one round: the seen marks, and those before the hit vertices got theirs, are the marks
 pub searched_on : (g : RawGraph) → IsLawful g → (source : ℕ) (table : List ℕ) (marks seen before after : List Bool) (frontier subset : Subset) (ids : List ℕ) (seat seat' : Seat) (round : ℕ) (by : Direction)

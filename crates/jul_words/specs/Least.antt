@@ -16,6 +16,10 @@ least v start (e ∷ es) = cond (e.vertex == v) (min e.number (least v start es)
 abbrev pub word_by : Home → List Entry → ℕ → ℕ
 word_by h log v = least v (start_of h v) log
 
+-- the word of v by the log of a seat
+abbrev pub word_of : Seat → ℕ → ℕ
+word_of s v = word_by s.home s.log v
+
 -- the entry of a `lower` to c that found n: it is marked where n is greater
 abbrev pub lowering : ℕ → ℕ → ℕ → Entry
 lowering v c n = entry LOWER v c (counted (nat_lt c n))

@@ -1,6 +1,7 @@
 use Rattle.std.proofs.Common.{◌+◌, arith, ◌∙◌, sym, subst}
 use Rattle.jul_reach.specs.Searching.{IsSearching}
-use Rattle.jul_reach.proofs.SearchLaws.{begun_search, hit_unmarked, searched_on, written, ended}
+use Rattle.jul_base.proofs.ListLaws.{written}
+use Rattle.jul_reach.proofs.SearchLaws.{begun_search, hit_unmarked, searched_on, ended}
 use Rattle.jul_reach.proofs.reaching.search.Goals as goal
 
 pub rounds-init : goal.rounds-init
