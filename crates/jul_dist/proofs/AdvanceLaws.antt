@@ -1,23 +1,23 @@
 -- A round keeps what a search keeps, and where no vertex has a place the numbers are the distances.
 use Rattle.std.proofs.Common.{◌≡◌, ◌≢◌, ◌⊎◌, ℕ, ◌+◌, ◌*◌, ◌/◌, ◌<◌, ◌≤◌, List, [], ◌∷◌, ◌++◌, length, get_or, refl, sym, ap, ◌∙◌, subst, arith, inl, inr, append_assoc}
 use Rattle.std.specs.List.{Contains, All}
-use Rattle.std.proofs.lemmas.Bool.{cases_eq, cases_lt, cases_Bool, both_ways}
+use Rattle.std.proofs.lemmas.Bool.{cases_eq, cases_lt}
 use Rattle.std.proofs.lemmas.Nat.{div-add-mod', le-div}
 use Rattle.std.proofs.Math.Nat.{mul-le-mul_left}
 use Rattle.std.proofs.lemmas.List.Elements.{All-nil, All-cons, All-append, All-contains, Contains-get_or, All-from_get_or}
 use Rattle.jul_base.specs.declared.graphs.RawGraph.{RawGraph}
 use Rattle.jul_base.specs.declared.limits.TheConstants.{NONE}
 use Rattle.jul_base.specs.Graph.{vertices, target, weight, IsLawful}
-use Rattle.jul_base.specs.Sets.{has}
 use Rattle.jul_base.specs.DistanceList.{distance_list}
 use Rattle.jul_base.proofs.GraphLaws.{place_in_range, target_in_range}
-use Rattle.jul_base.proofs.SetLaws.{Contains-from_has, has-from_Contains}
+use Rattle.jul_base.proofs.SetLaws.{member_cases}
 use Rattle.jul_base.proofs.DistanceListLaws.{distance_list-place}
 use Rattle.jul_base.proofs.CappedLaws.{capped_are_distances}
 use Rattle.jul_words.specs.Seats.{Seat}
 use Rattle.jul_subset.specs.Subsets.{Subset}
 use Rattle.jul_dist.specs.declared.limits.TheConstants.{MAX_SUM}
-use Rattle.jul_dist.specs.Relaxing.{word_of, IsOffered, HasRelaxed, AreAboveFloors}
+use Rattle.jul_words.specs.Least.{word_of}
+use Rattle.jul_dist.specs.Relaxing.{IsOffered, HasRelaxed, AreAboveFloors}
 use Rattle.jul_bucket.specs.declared.draws.Draw.{Draw}
 use Rattle.jul_dist.specs.Draws.{IsLastDraw}
 use Rattle.jul_dist.specs.Advancing.{IsAdvancing}
@@ -49,12 +49,6 @@ last_still draws d v b other h = record {
   bucket_is = h.bucket_is;
   last = All-append (λ (e : Draw). Contains e.ids v → ⊥) h.after (d ∷ []) h.last (All-cons (λ (e : Draw). Contains e.ids v → ⊥) d [] other (All-nil (λ (e : Draw). Contains e.ids v → ⊥)));
 }
-
-pub member_cases : (ids : List ℕ) (v : ℕ) → Contains ids v ⊎ (Contains ids v → ⊥)
-member_cases ids v = elim (cases_Bool (has ids v)) [
-  | inl there ↦ inl (Contains-from_has ids v there)
-  | inr not' ↦ inr (λ there. both_ways (has ids v) not' (has-from_Contains ids v there))
-]
 
 -- the ids are those whose place is b
 abbrev pub AreIn : List ℕ → ℕ → List ℕ → Type 0

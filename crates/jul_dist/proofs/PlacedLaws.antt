@@ -1,12 +1,11 @@
 -- How many vertices have a place: fewer once a bucket is emptied, and no more than there are moves on top once they are moved.
-use Rattle.std.proofs.Common.{◌≡◌, ◌≢◌, ℕ, zero, suc, ◌+◌, ◌<◌, ◌≤◌, ◌==◌, not, cond, List, [], ◌∷◌, ◌++◌, length, get_or, set, ap, sym, ◌∙◌, arith, inl, inr, take, drop}
+use Rattle.std.proofs.Common.{◌≡◌, ◌≢◌, ℕ, zero, suc, ◌+◌, ◌<◌, ◌≤◌, ◌==◌, not, cond, List, [], ◌∷◌, length, get_or, set, ap, sym, ◌∙◌, arith, inl, inr}
 use Rattle.std.specs.Prelude.{Contains}
 use Rattle.std.specs.List.{All}
 use Rattle.std.proofs.lemmas.Bool.{cases_eq, eq-eqb, ne_eqb, cond-true, cond-false}
 use Rattle.std.proofs.lemmas.List.{length-set}
 use Rattle.std.proofs.lemmas.List.Elements.{All-head, All-tail, All-weaker}
 use Rattle.std.proofs.lemmas.List.Sums.{sum_by-cons, sum_by-set}
-use Rattle.std.proofs.Math.Seq.{take-append_seam}
 use Rattle.jul_base.specs.declared.limits.TheConstants.{NONE}
 use Rattle.jul_bucket.specs.Places.{emptied, set_places}
 use Rattle.jul_dist.specs.Moving.{placed}
@@ -64,7 +63,3 @@ placed_moved places (m ∷ ms) within =
     (All-tail (λ (m : ℕ × ℕ). m.0 < length places) m ms within) in
     let one : placed (set places m.0 m.1) + is_placed (get_or places m.0 0) ≡ placed places + is_placed m.1 = sum_by-set (λ p. is_placed p) places m.0 m.1 0 first in
     omega (arith, placed_moved (set places m.0 m.1) ms rest, one, one_placed m.1)
-
--- ---- a list that is written back over its vector
-pub written : (after before : List ℕ) (len : ℕ) → length after ≡ len → take len (after ++ drop (length after) before) ≡ after
-written after before len e = ap (λ n. take n (after ++ drop (length after) before)) (sym e) ∙ take-append_seam after (drop (length after) before)

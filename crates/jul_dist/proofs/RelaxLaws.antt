@@ -3,25 +3,25 @@ use Rattle.std.proofs.Common.{◌≡◌, ℕ, ◌+◌, ◌<◌, ◌≤◌, Bool,
 use Rattle.std.specs.Prelude.{nat_lt}
 use Rattle.std.specs.List.{Contains, All}
 use Rattle.std.proofs.lemmas.Bool.{cases_lt, lt-ltb}
-use Rattle.std.proofs.lemmas.List.Elements.{All-nil, All-cons, All-head, All-tail, All-append, All-contains, All-weaker, All-map}
+use Rattle.std.proofs.lemmas.List.Elements.{All-nil, All-cons, All-head, All-tail, All-append, All-contains, All-weaker}
 use Rattle.jul_base.specs.declared.graphs.RawGraph.{RawGraph}
 use Rattle.jul_base.specs.Graph.{vertices, target, weight, IsPlaceOf, IsLawful}
 use Rattle.jul_base.specs.Logs.{Log, Entry, LOWER}
 use Rattle.jul_pool.specs.Added.{HasAdded, first_part, entries_of}
-use Rattle.jul_pool.proofs.PartLaws.{HasOnePart, one_part}
+use Rattle.jul_pool.proofs.PartLaws.{HasOnePart}
 use Rattle.jul_words.specs.Weights.{counted, weigh}
 use Rattle.jul_words.specs.Marks.{is_at, is_marked}
 use Rattle.jul_words.specs.Seats.{Seat, IsAlone, floor_of, start_of, entry, logs}
-use Rattle.jul_words.specs.Least.{least, lowering, Marks, IsSettled}
+use Rattle.jul_words.specs.Least.{least, lowering, Marks, IsSettled, word_of}
 use Rattle.jul_words.proofs.Marking.{at_here, at_parts, mark_parts}
 use Rattle.jul_words.proofs.LaterLaws.{least_falls, least_offered, least_fell}
 use Rattle.jul_subset.specs.Subsets.{Subset}
 use Rattle.jul_edge.specs.declared.functions.Direction.{Direction}
 use Rattle.jul_edge.specs.Edges.{Application, application, IsWanted}
 use Rattle.jul_edge.specs.EdgeMaps.{IsMapped}
-use Rattle.jul_edge.proofs.MappedLaws.{EdgeDone, added_of, OneOf, applied_to, made_wanted, added_by, entries_have, TellsMarks, fell_hit}
+use Rattle.jul_edge.proofs.MappedLaws.{EdgeDone, added_of, log_grew as log_behind, OneOf, applied_to, made_wanted, added_by, entries_have, TellsMarks, fell_hit}
 use Rattle.jul_dist.specs.declared.limits.TheConstants.{MAX_SUM}
-use Rattle.jul_dist.specs.Relaxing.{offer, offer_of, Relaxes, word_of, AreSums, IsOffered, HasRelaxed}
+use Rattle.jul_dist.specs.Relaxing.{offer, offer_of, Relaxes, AreSums, IsOffered, HasRelaxed}
 
 -- ---- one application
 
@@ -106,11 +106,9 @@ module _ (by : Direction) (g : RawGraph) (lawful : IsLawful g) (members values :
   -- the new entries stand behind the old ones
   pub log_grew : new.log ≡ old.log ++ entries
   log_grew =
-      let each : All HasOnePart (added_of mapped.done) =
-      All-map HasOnePart (λ (d : EdgeDone). d.added) mapped.done
-      (All-weaker (λ (d : EdgeDone). Relaxes values d.to d.answer d.added) (λ (d : EdgeDone). HasOnePart d.added)
-      (λ d r. one_part_each values d.to d.answer d.added r) mapped.done mapped.applied.each) in
-      ap first_part (mapped.applied.log_is ∙ one_part old.log (added_of mapped.done) each)
+      log_behind (Relaxes values) old.log new.log mapped.done mapped.applied
+      (All-weaker (λ (d : EdgeDone). Relaxes values d.to d.answer d.added) (λ (d : EdgeDone). length d.added ≤ 1)
+      (λ d r. one_part_each values d.to d.answer d.added r) mapped.done mapped.applied.each)
 
   -- the words are those of the home with the entries behind
   word_is : (v : ℕ) → word_of new v ≡ least v (start_of old.home v) (old.log ++ entries)

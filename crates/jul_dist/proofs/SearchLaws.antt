@@ -25,14 +25,16 @@ use Rattle.jul_bucket.specs.Orders.{IsNotBehind}
 use Rattle.jul_bucket.specs.Places.{ids_at, emptied, set_places, AllNone}
 use Rattle.jul_bucket.specs.States.{State, IsState, IsDrawn}
 use Rattle.jul_bucket.proofs.IdLaws.{Contains-ids_at, ids_at-Contains, IsStrictlyIncreasing-ids_at, length-emptied, emptied-here, emptied-other, length-set_places}
-use Rattle.jul_dist.specs.Relaxing.{word_of, HasRelaxed, AreAboveFloors}
+use Rattle.jul_words.specs.Least.{word_of}
+use Rattle.jul_base.proofs.SetLaws.{member_cases}
+use Rattle.jul_dist.specs.Relaxing.{HasRelaxed, AreAboveFloors}
 use Rattle.jul_dist.specs.Draws.{NeverFall}
 use Rattle.jul_dist.specs.Moving.{placed, remaining, bucket_of, moves_of, CanGo, HasTaken}
 use Rattle.jul_dist.specs.Advancing.{IsAdvancing, IsSearching}
 use Rattle.jul_dist.proofs.PlacedLaws.{placed_emptied, placed_moved}
 use Rattle.jul_dist.proofs.MovingLaws.{moves_few, placed_there, placed_still, moves_all}
 use Rattle.jul_subset.proofs.IncreasingLaws.{length_below}
-use Rattle.jul_dist.proofs.AdvanceLaws.{div-le, member_cases, AreIn, ArePlaced, all_ahead, bucket_small, above_floors, advances, not_behind, ended}
+use Rattle.jul_dist.proofs.AdvanceLaws.{div-le, AreIn, ArePlaced, all_ahead, bucket_small, above_floors, advances, not_behind, ended}
 
 module _ (g : RawGraph) (lawful : IsLawful g) (sources : List ℕ) (sources_in : All (λ s. s < vertices g) sources) (delta : ℕ) (some_delta : 1 ≤ delta) (table stamp_table : List ℕ) (home stamp_home : Home)
     (values : List ℕ) (seat stamp_seat : Seat) (s : State) (h : IsSearching g sources delta table stamp_table home stamp_home values seat stamp_seat s) (b : ℕ) (ids : List ℕ) (mid : State) (drawn : IsDrawn s b ids mid) where

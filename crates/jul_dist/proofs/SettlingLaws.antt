@@ -9,7 +9,7 @@ use Rattle.std.proofs.lemmas.List.Kept.{AllPairs-from_increasing}
 use Rattle.std.proofs.lemmas.List.Sums.{sum_by-set}
 use Rattle.std.proofs.lemmas.List.Elements.{Contains-append_left, Contains-push, Contains-push_cases, Contains-get_or}
 use Rattle.jul_words.specs.Seats.{Seat, IsAlone}
-use Rattle.jul_dist.specs.Relaxing.{word_of}
+use Rattle.jul_words.specs.Least.{word_of}
 use Rattle.jul_dist.specs.Moving.{HasTaken}
 
 -- nothing was taken yet

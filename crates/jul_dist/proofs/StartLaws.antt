@@ -4,7 +4,7 @@ use Rattle.std.specs.Prelude.{Contains}
 use Rattle.std.specs.List.{All}
 use Rattle.std.proofs.lemmas.Bool.{cases_eq}
 use Rattle.std.proofs.lemmas.List.{length-set, take_more, take_all, get_or-replicate, get_or-set_same, get_or-set_other}
-use Rattle.std.proofs.lemmas.List.Elements.{All-nil, All-weaker, All-contains, Contains-append_left, Contains-push, Contains-push_cases}
+use Rattle.std.proofs.lemmas.List.Elements.{All-nil, All-contains, Contains-append_left, Contains-push, Contains-push_cases}
 use Rattle.jul_base.specs.declared.graphs.RawGraph.{RawGraph}
 use Rattle.jul_base.specs.declared.limits.TheConstants.{NONE}
 use Rattle.jul_base.specs.Graph.{vertices, IsLawful}
@@ -21,7 +21,8 @@ use Rattle.jul_bucket.specs.declared.orders.Order.TheVariants.{Increasing}
 use Rattle.jul_bucket.specs.declared.draws.Draw.{Draw}
 use Rattle.jul_bucket.specs.Places.{AllNone}
 use Rattle.jul_bucket.specs.States.{State}
-use Rattle.jul_dist.specs.Relaxing.{word_of, AreSums}
+use Rattle.jul_words.specs.Least.{word_of}
+use Rattle.jul_dist.specs.Relaxing.{AreSums}
 use Rattle.jul_dist.specs.Draws.{IsLastDraw}
 use Rattle.jul_dist.specs.declared.limits.TheConstants.{MAX_SUM}
 use Rattle.jul_dist.specs.Advancing.{IsAdvancing, IsSearching}
@@ -116,16 +117,6 @@ module _ (g : RawGraph) (lawful : IsLawful g) (sources : List ℕ) (sources_in :
       AreDistances g sources dist
   found table stamp_table home stamp_home values dist seat stamp_seat s h none is =
       subst (AreDistances g sources) (sym (is ∙ none_left g lawful sources sources_in delta table stamp_table home stamp_home values seat stamp_seat s h none)) (distance_list-is g lawful sources sources_in)
-
--- later rounds may stamp
-pub stamp_on : (n : ℕ) (table : List ℕ) (round next : ℕ) (s : Seat) → round ≤ next → CanStamp n table round s → CanStamp n table next s
-stamp_on n table round next s le can = record {
-  of_table = can.of_table;
-  words = can.words;
-  alone = can.alone;
-  some = omega (arith, can.some);
-  above = All-weaker (λ (e : Entry). e.number < round) (λ (e : Entry). e.number < next) (λ e lt. omega (arith, lt)) s.log can.above;
-}
 
 pub started_whole : (n : ℕ) (sources values : List ℕ) (i : ℕ) → length sources ≤ i → AreStarted n (take i sources) values → values ≡ first_numbers n sources
 started_whole n sources values i past h = started_are_first n (take i sources) values h ∙ ap (first_numbers n) (take_all i sources past)

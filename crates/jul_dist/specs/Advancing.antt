@@ -11,7 +11,8 @@ use Rattle.jul_edge.specs.EdgeMaps.{CanStamp}
 use Rattle.jul_bucket.specs.declared.orders.Order.TheVariants.{Increasing}
 use Rattle.jul_bucket.specs.declared.draws.Draw.{Draw}
 use Rattle.jul_bucket.specs.States.{State}
-use Rattle.jul_dist.specs.Relaxing.{offer, word_of, AreSums}
+use Rattle.jul_words.specs.Least.{word_of}
+use Rattle.jul_dist.specs.Relaxing.{offer, AreSums}
 use Rattle.jul_dist.specs.Draws.{IsLastDraw}
 
 -- Between two rounds, by the numbers of the vertices, their places and the draws so far. No number is below the distance.

@@ -5,7 +5,7 @@ use Rattle.jul_base.specs.Graph.{vertices, target, weight, IsPlaceOf}
 use Rattle.jul_base.specs.Logs.{Log, Entry, Home, LOWER}
 use Rattle.jul_words.specs.Weights.{counted}
 use Rattle.jul_words.specs.Seats.{Seat, IsAlone, floor_of, entry}
-use Rattle.jul_words.specs.Least.{word_by, IsSettled}
+use Rattle.jul_words.specs.Least.{word_of, IsSettled}
 use Rattle.jul_subset.specs.Subsets.{Subset}
 use Rattle.jul_edge.specs.Edges.{Application}
 use Rattle.jul_dist.specs.declared.limits.TheConstants.{MAX_SUM}
@@ -36,10 +36,6 @@ pub record CanRelax (values : List ℕ) (a : Application) (homes : List Home) : 
 abbrev pub AreAboveFloors : RawGraph → List ℕ → List ℕ → Home → Type 0
 AreAboveFloors g members values home = (u p : ℕ) → IsPlaceOf g u p → Contains members u → offer values u (weight g p) ≤ MAX_SUM →
     floor_of home (target g p) ≤ offer values u (weight g p)
-
--- the word of v, by a seat's log
-abbrev pub word_of : Seat → ℕ → ℕ
-word_of s v = word_by s.home s.log v
 
 -- c was offered to v over a place of a member
 pub record IsOffered (g : RawGraph) (members values : List ℕ) (v c : ℕ) : Type 0 where

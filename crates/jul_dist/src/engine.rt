@@ -11,7 +11,8 @@ ghost use Rattle.jul_edge.specs.EdgeMaps.{CanStamp};
 ghost use Rattle.jul_bucket.specs.declared.limits.TheConstants.{MAX_OPEN};
 ghost use Rattle.jul_bucket.specs.declared.orders.Order.TheVariants.{Increasing};
 ghost use Rattle.jul_bucket.specs.Places.{AllNone};
-ghost use Rattle.jul_dist.specs.Relaxing.{word_of, AreSums};
+ghost use Rattle.jul_words.specs.Least.{word_of};
+ghost use Rattle.jul_dist.specs.Relaxing.{AreSums};
 ghost use Rattle.jul_dist.specs.Draws.{IsLastDraw, NeverFall};
 
 use crate::floors::DistanceFloors;

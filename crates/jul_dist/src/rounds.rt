@@ -7,15 +7,17 @@ ghost use Rattle.jul_edge.specs.EdgeMaps.{CanStamp, HasStamped};
 ghost use Rattle.jul_dist.specs.Relaxing.{HasRelaxed, AreAboveFloors};
 
 use crate::relaxing::Relax;
-use crate::walking::walk;
 use jul_base::Gate;
-use jul_edge::Direction;
+use jul_edge::{Direction, edge_map_with_threshold};
 use jul_pool::Team;
 use jul_rows::{InRows, Rows};
 use jul_subset::VertexSubset;
 use jul_words::{MinHand, MinSeat, MinWords, StampSeat, StampWords};
 use std::alloc::{AllocError, Global};
 use std::thread::Threads;
+
+/// A pull is made where members and places are more than one in so many of all places.
+const SHARE_FOR_PULL: u32 = 2;
 
 /// What a round gives back.
 #[derive(Drop)]
@@ -74,8 +76,11 @@ pub(crate) fn relax_round<R: Threads + Sync, G: Gate>(
     };
     let hand = MinHand { words, seat };
     let team = team.for_work(reach);
-    let out = walk(
-        rt, alloc, &team, rows, in_rows, from, reach, &f, hand, stamps, stamp_seat, round,
+    // A pull that can't end early costs each place that leads to a wanted target: it is rarely the lesser work.
+    let threshold = u64::from(rows.m() / SHARE_FOR_PULL);
+    let out = edge_map_with_threshold(
+        rt, alloc, &team, rows, in_rows, from, reach, threshold, &f, hand, stamps, stamp_seat,
+        round,
     )?;
     let MinHand { words: _, mut seat } = out.token;
     // By this step the root learns what the rule says of its log, now that none is out.

@@ -2,7 +2,7 @@
 ghost use Rattle.std.specs.Prelude.{◌≡◌, ℕ, ◌<◌, ◌≤◌, length, All, IfOk};
 ghost use Rattle.std.specs.List.Sorted.{IsStrictlyIncreasing};
 ghost use Rattle.jul_words.specs.Seats.{IsSeatOf, IsAlone};
-ghost use Rattle.jul_dist.specs.Relaxing.{word_of};
+ghost use Rattle.jul_words.specs.Least.{word_of};
 ghost use Rattle.jul_dist.specs.Moving.{HasTaken};
 
 use jul_words::{MinSeat, MinWords};

@@ -3,7 +3,7 @@ use Rattle.jul_base.specs.Graph.{vertices}
 use Rattle.jul_base.specs.Sources.{first_numbers}
 use Rattle.jul_base.specs.DistanceList.{distance_list}
 use Rattle.jul_words.specs.Seats.{home}
-use Rattle.jul_dist.proofs.PlacedLaws.{written}
+use Rattle.jul_base.proofs.ListLaws.{written}
 use Rattle.jul_dist.proofs.StartLaws.{begun, found, found_drawn}
 use Rattle.jul_dist.proofs.engine.distances.Goals as goal
 

@@ -1,5 +1,5 @@
 use Rattle.std.proofs.Common.{◌∙◌, ap, get_or}
-use Rattle.jul_dist.specs.Relaxing.{word_of}
+use Rattle.jul_words.specs.Least.{word_of}
 use Rattle.jul_dist.proofs.SettlingLaws.{turn_lower, turn_same, load_is}
 use Rattle.jul_dist.proofs.settling.take_words.Goals as goal
 use Rattle.jul_dist.proofs.settling.take_words.Goals.{then-word-values+in_ok-push, else-word-values}

@@ -1,5 +1,5 @@
 use Rattle.std.proofs.Common.{◌≡◌, take}
-use Rattle.jul_dist.specs.Relaxing.{word_of}
+use Rattle.jul_words.specs.Least.{word_of}
 use Rattle.jul_dist.specs.Moving.{HasTaken}
 use Rattle.jul_dist.proofs.settling.take_words.Given as goal
 
