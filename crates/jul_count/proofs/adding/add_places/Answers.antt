@@ -1,0 +1,15 @@
+use Rattle.std.proofs.Common.{◌≤◌, ◌*◌, ◌≡◌, ◌∙◌, sym, length}
+use Rattle.std.proofs.lemmas.Grind.{div_ceil_times}
+use Rattle.jul_count.proofs.AddingLaws.{added_all}
+use Rattle.jul_count.proofs.adding.add_places.Goals as goal
+
+pub returns : goal.returns
+returns g c =
+    let may = c.requires.may in
+    let enough : length c.args.members.now ≤ c.div_ceil-chunks.result * c.args.team.now.chunk = rw c.div_ceil-chunks.ensures (div_ceil_times (length c.args.members.now) c.args.team.now.chunk c.args.team.now.some_members).0 in
+    let ran = c.in_ok-ran.ensures in
+    let home : c.in_ok-ran.ran.token.seat.home ≡ c.args.hand.seat.home = (let same = ran.home in cc) in
+    record {
+      added = added_all c.args.rows.now may.lawful c.args.members.now may.members_in c.args.team.now.chunk c.div_ceil-chunks.result _ _ _ _ _
+          ran.each_once enough home (ran.root ∙ sym c.requires.alone.0) (ran.none_out ∙ sym c.requires.alone.1) c.in_ok-noted.ensures;
+    }

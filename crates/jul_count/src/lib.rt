@@ -1,0 +1,15 @@
+//! How many places lead from a subset of vertices to each target: the counting edge map of Julienne (Dhulipala, Blelloch,
+//! Shun, SPAA 2017).
+//!
+//! Open a `CountWords` with a word for each vertex, and hand it to `edge_map_count` with a subset. The same table serves
+//! the next call, since each call leaves all words at 0.
+#![tactic(auto)]
+
+mod adding;
+mod draining;
+mod edge_counts;
+
+pub use edge_counts::edge_map_count;
+
+#[cfg(test)]
+mod tests;

@@ -1,0 +1,127 @@
+//! Counts worked out by hand, with several numbers of workers.
+ghost use Rattle.std.specs.Prelude.{◌≡◌, ◌≤◌, IfOk};
+ghost use Rattle.jul_base.specs.Graph.{vertices};
+ghost use Rattle.jul_count.specs.Adds.{CanCount};
+
+use crate::edge_map_count;
+use jul_base::{Gate, Ids, OpenGate, RawGraph};
+use jul_pool::Team;
+use jul_rows::Rows;
+use jul_subset::VertexSubset;
+use jul_words::{CountSeat, CountWords};
+use std::alloc::{AllocError, Global};
+use std::process::Abort;
+use std::sync::atomic::{AtomicU64, Ordering};
+use std::test::Fail;
+use std::thread::Threads;
+
+/// The rows of a graph without weights. Lists that aren't lawful end the test.
+fn rows_of(rt: &impl Abort, alloc: Global, offsets: &[u32], targets: &[u32]) -> Result<Rows, Fail> {
+    let graph = RawGraph {
+        weighted: false,
+        offsets: Ids::from_vec(Vec::from_slice(alloc, offsets)?),
+        targets: Ids::from_vec(Vec::from_slice(alloc, targets)?),
+        weights: Ids::from_vec(Vec::new(alloc)),
+    };
+    assert!(rt; graph.is_lawful());
+    Ok(Rows::of(graph))
+}
+
+/// Two triangles, 0 1 2 and 3 4 5, and an edge between 2 and 3.
+fn triangles(rt: &impl Abort, alloc: Global) -> Result<Rows, Fail> {
+    rows_of(
+        rt,
+        alloc,
+        &[0, 2, 4, 7, 10, 12],
+        &[1, 2, 0, 2, 0, 1, 3, 2, 4, 5, 3, 5, 3, 4],
+    )
+}
+
+/// A table with a word for each vertex, all of them 0.
+fn counts_for(alloc: Global, rows: &Rows) -> Result<(CountWords, CountSeat), AllocError>
+    ensures { IfOk result (λ r. CanCount (vertices rows.now) r.0 r.1) }
+{
+    CountWords::open(alloc, rows.n())
+}
+
+/// The counts from a subset, with one member to a chunk.
+fn counted<R: Threads + Sync + Abort, G: Gate>(
+    rt: &R,
+    alloc: Global,
+    rows: &Rows,
+    from: &VertexSubset,
+    workers: u32,
+    gate: &G,
+) -> Result<Vec<(u32, u64)>, Fail>
+    requires n { from.now.n ≡ vertices rows.now }
+    requires workers { (1 ≤ workers) × (workers ≤ 64) }
+{
+    let team = Team {
+        workers,
+        chunk: 1,
+        gate,
+    };
+    let (counts, seat) = counts_for(alloc, rows)?;
+    let (list, _seat) = edge_map_count(rt, alloc, &team, rows, from, &counts, seat)?;
+    Ok(list)
+}
+
+#[test]
+fn repeated_places_are_each_counted(rt: HostRuntime) -> Result<(), Fail> {
+    let rows = rows_of(&rt, rt.alloc(), &[0, 2], &[1, 1, 0, 0])?;
+    let from = VertexSubset::from_list(rt.alloc(), rows.n(), &[0])?;
+    for workers in [1u32, 2] {
+        let list = counted(&rt, rt.alloc(), &rows, &from, workers, &OpenGate)?;
+        assert_eq!(rt; list.as_slice(), [(1, 2)].as_slice(), "{workers} workers");
+    }
+    Ok(())
+}
+
+#[test]
+fn a_vertex_that_several_members_lead_to_stands_once(rt: HostRuntime) -> Result<(), Fail> {
+    // Vertex 2 is a neighbour of all three members, each of the others of one of them.
+    let rows = triangles(&rt, rt.alloc())?;
+    let mut from = VertexSubset::from_list(rt.alloc(), rows.n(), &[0, 1, 3])?;
+    let expected = [(0, 1), (1, 1), (2, 3), (4, 1), (5, 1)];
+    for workers in [1u32, 2, 7, 64] {
+        let list = counted(&rt, rt.alloc(), &rows, &from, workers, &OpenGate)?;
+        assert_eq!(rt; list.as_slice(), expected.as_slice(), "{workers} workers");
+    }
+    from.to_dense()?;
+    let list = counted(&rt, rt.alloc(), &rows, &from, 2, &OpenGate)?;
+    assert_eq!(rt; list.as_slice(), expected.as_slice(), "dense");
+    Ok(())
+}
+
+#[test]
+fn no_member_leads_nowhere(rt: HostRuntime) -> Result<(), Fail> {
+    let rows = triangles(&rt, rt.alloc())?;
+    let none = VertexSubset::from_list(rt.alloc(), rows.n(), &[])?;
+    let list = counted(&rt, rt.alloc(), &rows, &none, 2, &OpenGate)?;
+    assert_eq!(rt; list.len(), 0);
+    Ok(())
+}
+
+/// Counts its passes.
+#[derive(Drop)]
+struct CountGate {
+    passes: AtomicU64,
+}
+
+impl Gate for CountGate {
+    fn pass(&self, _worker: u32, _chunk: u32) {
+        self.passes.fetch_add(1, Ordering::SeqCst);
+    }
+}
+
+#[test]
+fn each_chunk_of_members_passes_the_gate(rt: HostRuntime) -> Result<(), Fail> {
+    let rows = triangles(&rt, rt.alloc())?;
+    let from = VertexSubset::from_list(rt.alloc(), rows.n(), &[0, 2, 3, 5])?;
+    let gate = CountGate {
+        passes: AtomicU64::new(0),
+    };
+    counted(&rt, rt.alloc(), &rows, &from, 2, &gate)?;
+    assert_eq!(rt; gate.passes.swap(0, Ordering::SeqCst), 4);
+    Ok(())
+}
