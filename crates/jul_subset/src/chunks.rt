@@ -5,14 +5,14 @@ ghost use Rattle.jul_subset.specs.Chunks.{chunk_of};
 
 use std::alloc::{AllocError, Global};
 
-/// The part of `ids` that chunk `n` has, where each but the last has `size` members.
+/// The part of `items` that chunk `n` has, where each but the last has `size` of them.
 #[inline]
-pub fn chunk_at(ids: &[u32], size: usize, n: usize) -> &[u32]
-    requires { n * size < length ids.now }
+pub fn chunk_at<T>(items: &[T], size: usize, n: usize) -> &[T]
+    requires { n * size < length items.now }
 
-    ensures { result.now ≡ chunk_of ids.now size n }
+    ensures { result.now ≡ chunk_of items.now size n }
 {
-    let (_, rest) = ids.split_at(n * size);
+    let (_, rest) = items.split_at(n * size);
     if rest.len() < size {
         return rest;
     }

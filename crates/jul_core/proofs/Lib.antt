@@ -1,0 +1,17 @@
+pub mod PeelStatements
+pub mod CountingLaws
+pub mod StageLaws
+pub mod RoundLaws
+pub mod DrawLaws
+pub mod PlaceSumLaws
+pub mod MoveLaws
+pub mod LowerLaws
+pub mod ColumnLaws
+pub mod AddLaws
+pub mod WholeLaws
+pub mod WorkLaws
+pub mod PeelStatementLaws
+pub mod Rows
+pub mod StateLaws
+pub mod MovingLaws
+pub mod TurnLaws

@@ -1,0 +1,167 @@
+-- A turn of the loop, from the draw to the next one.
+use Rattle.std.proofs.Common.{◌≡◌, ◌≢◌, ℕ, ◌+◌, ◌-◌, ◌<◌, ◌≤◌, ◌^◌, eqb, List, [], ◌∷◌, ◌++◌, length, length-append, get_or, take, drop, sym, ◌∙◌, ap, subst, refl, arith, inl, inr, Vec, Global}
+use Rattle.std.specs.Prelude.{All, slice_index, Option, MatchOption, Some, None}
+use Rattle.std.specs.List.Sorted.{IsStrictlyIncreasing}
+use Rattle.std.proofs.lemmas.Bool.{cases_eq}
+use Rattle.std.proofs.lemmas.List.{length-map, length-replicate}
+use Rattle.std.proofs.lemmas.List.Elements.{All-map}
+use Rattle.std.proofs.Math.Seq.{take-append_seam}
+use Rattle.jul_subset.proofs.IncreasingLaws.{length_below}
+use Rattle.jul_base.specs.declared.graphs.RawGraph.{RawGraph}
+use Rattle.jul_base.specs.declared.limits.TheConstants.{NONE}
+use Rattle.jul_base.specs.declared.results.Cores.{Cores}
+use Rattle.jul_base.specs.Graph.{vertices, IsLawful}
+use Rattle.jul_base.specs.Logs.{Home, Entry}
+use Rattle.jul_base.specs.Symmetry.{IsSymmetric}
+use Rattle.jul_words.specs.Seats.{Seat, rooted, zeros}
+use Rattle.jul_words.specs.Counts.{adds, drained}
+use Rattle.jul_count.specs.Counts.{AreCounts, counted}
+use Rattle.jul_bucket.specs.declared.orders.Order.{Order}
+use Rattle.jul_bucket.specs.declared.orders.Order.TheVariants.{Increasing}
+use Rattle.jul_bucket.specs.declared.draws.Draw.{Draw}
+use Rattle.jul_bucket.specs.Places.{ids_at, emptied, set_places, AllNone}
+use Rattle.jul_bucket.specs.States.{State, IsDrawn}
+use Rattle.jul_count.specs.Adds.{CanCount, HasCounted, AreZero}
+use Rattle.jul_core.specs.FirstHeld.{IsFirstHeld}
+use Rattle.jul_core.specs.Peels.{AreWritten, AreDegrees}
+use Rattle.jul_core.specs.PeelMoves.{CanLower}
+use Rattle.jul_core.specs.PeelWork.{IsPeeling, CanRound, HasRound, IsPeeledOut, work_of}
+use Rattle.jul_core.proofs.LowerLaws.{emptied-drawn, emptied-other}
+use Rattle.jul_core.proofs.PeelStatementLaws.{rounds_are_few}
+use Rattle.jul_core.proofs.WholeLaws.{ids_are_a_subset, adds_are_few}
+use Rattle.jul_core.proofs.WorkLaws.{work_starts, work_goes_on, work_ends}
+use Rattle.jul_core.proofs.StateLaws.{turn}
+
+-- a bucket was drawn
+pub drawn_at : (s mid : State) (o : Option (ℕ × Vec ℕ Global)) (b : ℕ) (ids : Vec ℕ Global) → o ≡ Some (b, ids) →
+    MatchOption o (AllNone s.places × (mid ≡ s)) (λ d. IsDrawn s d.0 d.1.items mid) → IsDrawn s b ids.items mid
+drawn_at s mid o b ids is h = subst (λ x. MatchOption x (AllNone s.places × (mid ≡ s)) (λ d. IsDrawn s d.0 d.1.items mid)) is h
+
+-- none was left
+pub ended_at : (P : State → Type 0) (s mid : State) (o : Option (ℕ × Vec ℕ Global)) → o ≡ None →
+    MatchOption o (AllNone s.places × (mid ≡ s)) (λ d. IsDrawn s d.0 d.1.items mid) → P s → P mid × AllNone mid.places
+ended_at P s mid o is h p =
+    let e : AllNone s.places × (mid ≡ s) = subst (λ x. MatchOption x (AllNone s.places × (mid ≡ s)) (λ d. IsDrawn s d.0 d.1.items mid)) is h in
+    (subst P (sym e.1) p, subst (λ (t : State). AllNone t.places) (sym e.1) e.0)
+
+module _ (g : RawGraph) (lawful : IsLawful g) (table : List ℕ) (home : Home) (core level : List ℕ) (seat : Seat) (s : State) (h : IsPeeling g table home core level seat s)
+    (bucket : ℕ) (ids : List ℕ) (mid : State) (drawn : IsDrawn s bucket ids mid) where
+  places_are : mid.places ≡ emptied s.places bucket
+  places_are = ap (λ (s : State). s.places) drawn.after
+
+  size : length s.places ≡ vertices g
+  size = h.under_way.peeled.places_are.size
+
+  first : IsFirstHeld s.places bucket
+  first = subst (λ (o : Order). Rattle.jul_bucket.specs.Places.IsFirstHeld o s.places bucket) h.order drawn.first
+
+  subset : IsStrictlyIncreasing ids × All (λ v. v < vertices g) ids
+  subset = subst (λ l. IsStrictlyIncreasing l × All (λ v. v < vertices g) l) (sym drawn.ids_are) (ids_are_a_subset g s.places bucket size)
+
+  -- the ids have a row in a column
+  pub ids_in : (column lent : List ℕ) → lent ≡ ids → length column ≡ vertices g → All (λ v. v < length column) lent
+  ids_in column lent same e = subst (λ l. All (λ v. v < length column) l) (sym same) (subst (λ n. All (λ v. v < n) ids) (sym e) subset.1)
+
+  pub can_count : CanCount (vertices g) table seat
+  can_count = record {
+    of_table = h.of_table;
+    words = h.words;
+    alone = h.alone;
+    zero = h.zero;
+    few = (let few = adds_are_few g (length s.draws) s.places s.draws seat.log lawful h.under_way.peeled h.under_way.adds in omega (arith, few, lawful.few_places));
+  }
+
+  later : (v : ℕ) → v < vertices g → slice_index mid.places v ≢ NONE → bucket < slice_index mid.places v
+  later v lt some =
+      let in' : v < length s.places = omega (arith, size, lt) in
+      let at : slice_index mid.places v ≡ slice_index (emptied s.places bucket) v = ap (λ l. slice_index l v) places_are in
+      elim (cases_eq (slice_index s.places v) bucket) [
+        | inl here ↦ absurd (some (at ∙ emptied-drawn s.places bucket v in' here))
+        | inr other ↦
+            let same : slice_index mid.places v ≡ slice_index s.places v = at ∙ emptied-other s.places bucket v in' other in
+            let no_earlier : bucket ≤ slice_index s.places v = first.first v 0 in' (λ none. some (same ∙ none)) in
+            grind (arith, same, no_earlier, other)
+      ]
+
+  pub can_round : CanRound g table bucket ids seat mid
+  can_round = record {
+    increasing = subset.0;
+    within = subset.1;
+    can_count = can_count;
+    order = ap (λ (s : State). s.order) drawn.after ∙ h.order;
+    front = ap (λ (s : State). s.front) drawn.after;
+    size = ap length places_are ∙ length-map s.places _ ∙ size;
+    later = later;
+  }
+
+  module _ (core' level' : List ℕ) (lent lent' : List ℕ) (seat' : Seat) (new : State) (lent_is : lent ≡ ids) (lent_is' : lent' ≡ ids)
+      (levels : AreWritten lent (length s.draws) level level') (cores : AreWritten lent' bucket core core') (round : HasRound g bucket ids seat seat' mid new) where
+    draws_grew : length new.draws ≡ length s.draws + 1
+    draws_grew =
+        ap (λ (s : State). length s.draws) round.moved ∙ ap (λ (s : State). length s.draws) drawn.after ∙ length-append s.draws _
+
+    -- fewer rounds are left
+    pub fewer : vertices g - length new.draws < vertices g - length s.draws
+    fewer =
+        let few : length s.draws < vertices g = rounds_are_few g (length s.draws) bucket s.places s.draws lawful h.under_way.peeled first in
+        omega (arith, few, draws_grew)
+
+    pub still_peeling : IsSymmetric g → IsPeeling g table home core' level' seat' new
+    still_peeling symmetric =
+        let did = round.counted_is in
+        let homes : seat'.home ≡ seat.home = ap (λ (s : Seat). s.home) did.seat_is in
+        let old_columns : Cores = record { core = core; level = level } in
+        let new_columns : Cores = record { core = core'; level = level' } in
+        let goes = turn g bucket ids round.counts did.gained seat.log seat'.log s mid new old_columns new_columns h.order drawn
+        (subst (λ l. AreWritten l (length s.draws) level level') lent_is levels) (subst (λ l. AreWritten l bucket core core') lent_is' cores)
+        round.counts_are did.adds (ap (λ (s : Seat). s.log) did.seat_is) round.moved in
+        record {
+          under_way = work_goes_on g bucket ids round.counts did.gained (work_of s core level seat.log) (work_of new core' level' seat'.log) lawful symmetric h.under_way goes;
+          order = ap (λ (s : State). s.order) round.moved ∙ ap (λ (s : State). s.order) drawn.after ∙ h.order;
+          home_is = homes ∙ h.home_is;
+          of_table = ap (λ (h : Home). h.table) homes ∙ h.of_table;
+          words = ap (λ (h : Home). length h.starts) homes ∙ h.words;
+          alone = (ap (λ (s : Seat). s.root) did.seat_is ∙ h.alone.0, ap (λ (s : Seat). s.out) did.seat_is ∙ h.alone.1);
+          zero = round.zero;
+        }
+
+-- what is counted may be moved
+pub can_lower : (g : RawGraph) (table : List ℕ) (bucket : ℕ) (ids : List ℕ) (seat : Seat) (s : State) (counts : List (ℕ × ℕ)) → CanRound g table bucket ids seat s → AreCounts g ids counts → CanLower s bucket counts
+can_lower g table bucket ids seat s counts can are = record {
+  order = can.order;
+  front = can.front;
+  ahead = λ k d lt.
+      let e : ℕ × ℕ = get_or counts k d in
+      let within : e.0 < vertices g = are.within k d lt in
+      let range : e.0 < length s.places = omega (arith, within, can.size) in
+      record { in_range = range; some = are.some k d lt; later = λ some. can.later e.0 within some };
+}
+
+-- no more vertices are counted than there are
+pub counts_few : (g : RawGraph) (ids : List ℕ) (counts : List (ℕ × ℕ)) → IsLawful g → AreCounts g ids counts → length counts < 2 ^ 32
+counts_few g ids counts lawful are =
+    let same : length (counted counts) ≡ length counts = length-map counts _ in
+    let within : All (λ v. v < vertices g) (counted counts) = All-map (λ v. v < vertices g) (λ (e : ℕ × ℕ). e.0) counts are.within in
+    omega (arith, same, length_below (counted counts) (vertices g) are.rises within, lawful.few_vertices)
+
+-- ---- the first turn, and the last
+
+-- a list that is written back over its vector
+pub written_back : (after before : List ℕ) (len : ℕ) → length after ≡ len → take len (after ++ drop (length after) before) ≡ after
+written_back after before len e = ap (λ n. take n (after ++ drop (length after) before)) (sym e) ∙ take-append_seam after (drop (length after) before)
+
+pub start_at : (g : RawGraph) → IsLawful g → (table : List ℕ) (core level : List ℕ) (seat : Seat) (s : State) → seat ≡ rooted (zeros table (vertices g)) → s.order ≡ Increasing → AreDegrees g s.places → s.draws ≡ [] →
+    length core ≡ vertices g → length level ≡ vertices g → IsPeeling g table seat.home core level seat s
+start_at g lawful table core level seat s seat_is order degrees none core_size level_size =
+    let empty : seat.log ≡ [] = ap (λ (s : Seat). s.log) seat_is in record {
+      under_way = work_starts g (work_of s core level seat.log) lawful (record { degrees = degrees; no_draws = none; no_entries = empty; core_size = core_size; level_size = level_size });
+      order = order;
+      home_is = refl;
+      of_table = ap (λ (s : Seat). s.home.table) seat_is;
+      words = ap (λ (s : Seat). length s.home.starts) seat_is ∙ length-replicate (vertices g) 0;
+      alone = (ap (λ (s : Seat). s.root) seat_is, ap (λ (s : Seat). s.out) seat_is);
+      zero = λ v near. ap (adds v) empty ∙ sym (ap (drained v) empty);
+    }
+
+pub peeled_out : (g : RawGraph) → IsLawful g → (table : List ℕ) (home : Home) (core level : List ℕ) (seat : Seat) (s : State) → IsPeeling g table home core level seat s → AllNone s.places → IsPeeledOut g (work_of s core level seat.log)
+peeled_out g lawful table home core level seat s h none = work_ends g (work_of s core level seat.log) lawful h.under_way none

@@ -1,0 +1,5 @@
+pub mod FirstHeld
+pub mod Peels
+pub mod PeelPlaces
+pub mod PeelMoves
+pub mod PeelWork

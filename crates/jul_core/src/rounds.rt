@@ -1,0 +1,75 @@
+//! Peeling, bucket after bucket.
+ghost use Rattle.std.specs.Prelude.{◌≡◌, length, IfOk};
+ghost use Rattle.jul_base.specs.Symmetry.{IsSymmetric};
+ghost use Rattle.jul_bucket.specs.Places.{AllNone};
+ghost use Rattle.jul_core.specs.PeelWork.{IsPeeling, CanRound, HasRound};
+
+use crate::columns::write_at;
+use crate::moving::moves_down;
+use crate::work::reach_of;
+use jul_base::{Gate, MAX_N};
+use jul_bucket::Buckets;
+use jul_count::edge_map_count;
+use jul_pool::Team;
+use jul_rows::Rows;
+use jul_subset::VertexSubset;
+use jul_words::{CountSeat, CountWords};
+use std::alloc::{AllocError, Global};
+use std::thread::Threads;
+
+/// Draws bucket after bucket till no vertex is in a bucket. The vertices of draw number t get level t, and the bucket as
+/// their coreness.
+pub(crate) fn peel_rounds<R: Threads + Sync, G: Gate>(
+    rt: &R,
+    alloc: Global,
+    team: &Team<'_, G>,
+    rows: &Rows,
+    counts: &CountWords,
+    mut seat: CountSeat,
+    core: &mut [u64],
+    level: &mut [u64],
+    buckets: &mut Buckets,
+) -> Result<CountSeat, AllocError>
+    requires symmetric { IsSymmetric rows.now }
+    requires peeling { IsPeeling rows.now counts.now seat.home core.old level.old seat buckets.old }
+
+    ensures peeling { IfOk result (λ r.
+        IsPeeling rows.now counts.now seat.home core.new level.new r buckets.new) }
+    ensures none_left { IfOk result (λ _. AllNone buckets.new.places) }
+{
+    prove!(rows.n() <= MAX_N);
+    'rounds: loop {
+        let round = buckets.drawn().len() as u64;
+        let Some((bucket, ids)) = buckets.next_bucket()? else {
+            return Ok(seat);
+        };
+        write_at(ids.as_slice(), round, level);
+        write_at(ids.as_slice(), bucket, core);
+        seat = lower_reached(rt, alloc, team, rows, ids, bucket, counts, seat, buckets)?;
+    }
+}
+
+/// Moves each vertex that is in a bucket down by the number of places that lead to it from the drawn ones, but not below
+/// the bucket drawn. The places are counted by as many workers as they are worth.
+fn lower_reached<R: Threads + Sync, G: Gate>(
+    rt: &R,
+    alloc: Global,
+    team: &Team<'_, G>,
+    rows: &Rows,
+    drawn: Vec<u32>,
+    bucket: u64,
+    counts: &CountWords,
+    seat: CountSeat,
+    buckets: &mut Buckets,
+) -> Result<CountSeat, AllocError>
+    requires can { CanRound rows.now counts.now bucket drawn.items seat buckets.old }
+
+    ensures { IfOk result (λ r. HasRound rows.now bucket drawn.items seat r buckets.old buckets.new) }
+{
+    let crew = team.for_work(reach_of(rows, drawn.as_slice()));
+    let from = VertexSubset::from_increasing(alloc, rows.n(), drawn);
+    let (list, seat) = edge_map_count(rt, alloc, &crew, rows, &from, counts, seat)?;
+    let moves = moves_down(rt, alloc, team, list.as_slice(), bucket, buckets)?;
+    buckets.update_buckets(moves.as_slice())?;
+    Ok(seat)
+}
