@@ -6,12 +6,11 @@ ghost use Rattle.jul_core.specs.PeelWork.{IsPeeling, CanRound, HasRound};
 
 use crate::columns::write_at;
 use crate::moving::moves_down;
-use crate::work::reach_of;
 use jul_base::{Gate, MAX_N};
 use jul_bucket::Buckets;
 use jul_count::edge_map_count;
 use jul_pool::Team;
-use jul_rows::Rows;
+use jul_rows::{Rows, reach_of};
 use jul_subset::VertexSubset;
 use jul_words::{CountSeat, CountWords};
 use std::alloc::{AllocError, Global};
