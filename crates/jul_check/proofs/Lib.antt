@@ -9,7 +9,6 @@ pub mod CoverCheckLaws
 pub mod PlaceLaws
 pub mod LoweringLaws
 pub mod TreeMarkLaws
-pub mod SourceWalkLaws
 pub mod DistanceCheckLaws
 pub mod DistanceAcceptLaws
 pub mod DistanceCheckRows

@@ -4,7 +4,6 @@ pub mod Marks
 pub mod CoreChecks
 pub mod DistanceChecks
 pub mod TreeMarks
-pub mod SourceWalks
 pub mod CoverChecks
 pub mod CoreOrder
 pub mod CoverMarks

@@ -2,16 +2,18 @@
 //!
 //! Two bounds on each vertex by one pass over its row, and an order of all vertices: with the bounds, no list
 //! that holds a vertex can have more places into it than the vertex's core.
-ghost use Rattle.std.specs.Prelude.{◌≡◌, ℕ, ◌<◌, length, slice_index, find, All, IfOk};
+ghost use Rattle.std.specs.Prelude.{◌≡◌, ℕ, ◌<◌, length, slice_index, All, IfOk};
 ghost use Rattle.jul_base.specs.Numbers.{IsColumn};
 ghost use Rattle.jul_base.specs.Graph.{vertices};
 ghost use Rattle.jul_base.specs.Coreness.{IsCoreness};
 ghost use Rattle.jul_base.specs.Levels.{IsLevel};
-ghost use Rattle.jul_check.specs.CoreChecks.{at_least, not_before};
+ghost use Rattle.jul_check.specs.CoreChecks.{at_least, not_before, is_outranked};
 ghost use Rattle.jul_check.specs.CoreChecks.{fails_cores, core_reasons, cores_verdict};
+ghost use Rattle.jul_check.specs.Marks.{AreMarks};
 ghost use Rattle.jul_check.specs.declared.verdicts.Verdict.TheVariants.{Yes};
 
 use crate::core_order::mark_outranked;
+use crate::verdict_search::{VertexTest, first_failing};
 use crate::verdicts::{Reason, Verdict};
 use jul_base::Cores;
 use jul_rows::Rows;
@@ -41,37 +43,48 @@ pub fn check_cores(alloc: Global, rows: &Rows, c: &Cores) -> Result<Verdict, All
         IsColumn (vertices rows.now) (IsCoreness rows.now) c.now.core →
         IsColumn (vertices rows.now) (IsLevel rows.now) c.now.level → verdict ≡ Yes) }
 {
-    let outranked = mark_outranked(alloc, c, rows.n())?;
-    for v in 0..rows.n() {
-        if let Some(reason) = first_reason(rows, c, v, outranked[v as usize]) {
-            return Ok(Verdict::No { vertex: v, reason });
-        }
-    }
-    Ok(Verdict::Yes)
+    let test = CoreTest {
+        rows,
+        c,
+        outranked: mark_outranked(alloc, c, rows.n())?,
+    };
+    Ok(first_failing(rows, &test))
 }
 
-/// The first reason that `v` fails, where it is known whether `v` is out of order.
-fn first_reason(rows: &Rows, c: &Cores, v: u32, is_outranked: bool) -> Option<Reason>
-    requires core { length c.now.core ≡ vertices rows.now }
-    requires level { length c.now.level ≡ vertices rows.now }
-    requires vertex { v < vertices rows.now }
-    requires order { is_outranked ≡ fails_cores rows.now c.now v Reason.Order }
+/// Cores with a mark for each vertex that is out of order.
+#[derive(Drop)]
+struct CoreTest<'a> {
+    rows: &'a Rows,
+    c: &'a Cores,
+    /// Whether some vertex before this one has a greater core.
+    outranked: Vec<bool>,
+}
 
-    ensures { result ≡ find (fails_cores rows.now c.now v) core_reasons }
-{
-    let core = c.core.get(v as usize);
-    let RowTally {
-        at_least,
-        not_before,
-    } = tally(c, rows.row(v), v);
-    if at_least < core {
-        Some(Reason::LowerBound)
-    } else if core < not_before {
-        Some(Reason::UpperBound)
-    } else if is_outranked {
-        Some(Reason::Order)
-    } else {
-        None
+impl<'a> VertexTest for CoreTest<'a> {
+    ghost can_test = { λ t v. (v < vertices t.rows.now) × (length t.c.now.core ≡ vertices t.rows.now)
+        × (length t.c.now.level ≡ vertices t.rows.now)
+        × AreMarks (vertices t.rows.now) (is_outranked t.c.now (vertices t.rows.now)) t.outranked.items };
+
+    ghost fails = { λ t. fails_cores t.rows.now t.c.now };
+
+    ghost reasons = { core_reasons };
+
+    fn first_reason(&self, v: u32) -> Option<Reason> {
+        let at = v as usize;
+        let core = self.c.core.get(at);
+        let RowTally {
+            at_least,
+            not_before,
+        } = tally(self.c, self.rows.row(v), v);
+        if at_least < core {
+            Some(Reason::LowerBound)
+        } else if core < not_before {
+            Some(Reason::UpperBound)
+        } else if self.outranked[at] {
+            Some(Reason::Order)
+        } else {
+            None
+        }
     }
 }
 

@@ -1,11 +1,13 @@
 //! The check of a set cover.
-ghost use Rattle.std.specs.Prelude.{◌≡◌, ◌<◌, length, find, IfOk};
+ghost use Rattle.std.specs.Prelude.{◌≡◌, ◌<◌, length, IfOk};
 ghost use Rattle.jul_base.specs.Graph.{vertices};
 ghost use Rattle.jul_check.specs.CoverChecks.{is_element, is_in_its_set, fails_cover, cover_reasons};
 ghost use Rattle.jul_check.specs.CoverChecks.{cover_verdict, HoldsEveryElement};
+ghost use Rattle.jul_check.specs.Marks.{AreMarks};
 ghost use Rattle.jul_check.specs.declared.verdicts.Verdict.TheVariants.{Yes};
 
-use crate::cover_marks::mark_all;
+use crate::cover_marks::{Marks, mark_all};
+use crate::verdict_search::{VertexTest, first_failing};
 use crate::verdicts::{Reason, Verdict};
 use jul_base::{Cover, NONE};
 use jul_rows::Rows;
@@ -22,41 +24,50 @@ pub fn check_cover(alloc: Global, rows: &Rows, c: &Cover) -> Result<Verdict, All
     ensures verdict { IfOk result (λ verdict. verdict ≡ cover_verdict rows.now c.now) }
     ensures sound { IfOk result (λ verdict. verdict ≡ Yes → HoldsEveryElement rows.now c.now.round) }
 {
-    let marks = mark_all(alloc, rows, c)?;
-    for v in 0..rows.n() {
-        let at = v as usize;
-        if let Some(reason) = first_reason(rows, c, v, marks.element[at], marks.held[at]) {
-            return Ok(Verdict::No { vertex: v, reason });
-        }
-    }
-    Ok(Verdict::Yes)
+    let test = CoverTest {
+        rows,
+        c,
+        marks: mark_all(alloc, rows, c)?,
+    };
+    Ok(first_failing(rows, &test))
 }
 
-/// The first reason that `v` fails, where its two marks are known.
-fn first_reason(rows: &Rows, c: &Cover, v: u32, element: bool, held: bool) -> Option<Reason>
-    requires round { length c.now.round ≡ vertices rows.now }
-    requires by { length c.now.by ≡ vertices rows.now }
-    requires vertex { v < vertices rows.now }
-    requires element { element ≡ is_element rows.now v }
-    requires held { held ≡ is_in_its_set rows.now c.now v }
+/// A cover with the marks of its vertices.
+#[derive(Drop)]
+struct CoverTest<'a> {
+    rows: &'a Rows,
+    c: &'a Cover,
+    marks: Marks,
+}
 
-    ensures { result ≡ find (fails_cover rows.now c.now v) cover_reasons }
-{
-    let by = c.by.get(v as usize);
-    if !element {
-        if by == NONE {
-            None
+impl<'a> VertexTest for CoverTest<'a> {
+    ghost can_test = { λ t v. (v < vertices t.rows.now) × (length t.c.now.round ≡ vertices t.rows.now)
+        × (length t.c.now.by ≡ vertices t.rows.now)
+        × AreMarks (vertices t.rows.now) (is_element t.rows.now) t.marks.element.items
+        × AreMarks (vertices t.rows.now) (is_in_its_set t.rows.now t.c.now) t.marks.held.items };
+
+    ghost fails = { λ t. fails_cover t.rows.now t.c.now };
+
+    ghost reasons = { cover_reasons };
+
+    fn first_reason(&self, v: u32) -> Option<Reason> {
+        let at = v as usize;
+        let by = self.c.by.get(at);
+        if !self.marks.element[at] {
+            if by == NONE {
+                None
+            } else {
+                Some(Reason::NoElement)
+            }
+        } else if by >= self.rows.n() as u64 {
+            Some(Reason::NotCovered)
+        } else if !self.marks.held[at] {
+            Some(Reason::NotHeld)
+        } else if self.c.round.get(by as usize) == NONE {
+            Some(Reason::NotChosen)
         } else {
-            Some(Reason::NoElement)
+            None
         }
-    } else if by >= rows.n() as u64 {
-        Some(Reason::NotCovered)
-    } else if !held {
-        Some(Reason::NotHeld)
-    } else if c.round.get(by as usize) == NONE {
-        Some(Reason::NotChosen)
-    } else {
-        None
     }
 }
 

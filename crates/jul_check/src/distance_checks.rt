@@ -4,17 +4,20 @@
 //! first vertex that fails. No sum is made, so that none wraps: numbers are compared by what one is more than the other.
 ghost use Rattle.std.specs.Prelude.{◌≡◌, ◌+◌, ◌<◌, length, nat_lt, find, IfOk};
 ghost use Rattle.jul_base.specs.Graph.{vertices, IsLawful};
+ghost use Rattle.jul_base.specs.Sets.{has};
 ghost use Rattle.jul_base.specs.Sources.{AreSources};
 ghost use Rattle.jul_base.specs.Distances.{AreDistances};
 ghost use Rattle.jul_base.specs.Trees.{AreTree};
 ghost use Rattle.jul_check.specs.DistanceChecks.{is_lowerable, is_parent};
-ghost use Rattle.jul_check.specs.DistanceChecks.{fails_as, distance_reasons, distances_verdict};
+ghost use Rattle.jul_check.specs.DistanceChecks.{fails_as, fails_distances};
+ghost use Rattle.jul_check.specs.DistanceChecks.{distance_reasons, distances_verdict};
 ghost use Rattle.jul_check.specs.Marks.{AreMarks};
 ghost use Rattle.jul_check.specs.TreeMarks.{parent_of};
 ghost use Rattle.jul_check.specs.declared.verdicts.Verdict.TheVariants.{Yes};
 
-use crate::source_walks::pass;
+use crate::source_marks::mark_sources;
 use crate::tree_marks::mark_tree;
+use crate::verdict_search::{VertexTest, first_failing};
 use crate::verdicts::{Reason, Verdict};
 use jul_base::{Distances, NONE};
 use jul_rows::Rows;
@@ -24,7 +27,7 @@ use std::alloc::{AllocError, Global};
 /// the least vertex that shows they are not. `sources` is an increasing list of 1 to `MAX_SOURCES` vertices.
 ///
 /// A yes implies that each number of `dist` is the least distance of its vertex. Distances with the least hops and the
-/// least parents are accepted. Memory that runs out is the only refusal.
+/// least parents are accepted. Memory that runs out is the only refusal. Takes memory for two marks a vertex.
 pub fn check_distances(
     alloc: Global,
     rows: &Rows,
@@ -41,32 +44,46 @@ pub fn check_distances(
     ensures accepts { IfOk result (λ verdict.
         AreTree rows.now sources.now d.now.dist d.now.hops d.now.parent → verdict ≡ Yes) }
 {
-    let marks = mark_tree(alloc, rows, d)?;
-    Ok(first_failing(rows, sources, d, marks.as_slice()))
+    let test = DistanceTest {
+        rows,
+        sources,
+        d,
+        is_source: mark_sources(alloc, sources, rows.n())?,
+        is_borne: mark_tree(alloc, rows, d)?,
+    };
+    Ok(first_failing(rows, &test))
 }
 
-/// The least vertex that fails and its first reason, where `marks` tells which parents bear their children out.
-fn first_failing(rows: &Rows, sources: &[u32], d: &Distances, marks: &[bool]) -> Verdict
-    requires sources { AreSources (vertices rows.now) sources.now }
-    requires dist { length d.now.dist ≡ vertices rows.now }
-    requires hops { length d.now.hops ≡ vertices rows.now }
-    requires parent { length d.now.parent ≡ vertices rows.now }
-    requires marks { AreMarks (vertices rows.now)
-        (λ v. is_parent rows.now d.now v (parent_of d.now v)) marks.now }
+/// Distances with two marks for each vertex.
+#[derive(Drop)]
+struct DistanceTest<'a> {
+    rows: &'a Rows,
+    /// Contracts alone read the list, `is_source` stands for it.
+    sources: &'a [u32],
+    d: &'a Distances,
+    /// Whether the vertex is a source.
+    is_source: Vec<bool>,
+    /// Whether its parent bears it out.
+    is_borne: Vec<bool>,
+}
 
-    ensures verdict { result ≡ distances_verdict rows.now sources.now d.now }
-    ensures lawful { IsLawful rows.now }
-{
-    let mut passed = 0;
-    for v in 0..rows.n() {
-        let now_passed = pass(sources, passed, v);
-        let is_source = passed < now_passed;
-        if let Some(reason) = first_reason(rows, is_source, d, v, marks[v as usize]) {
-            return Verdict::No { vertex: v, reason };
-        }
-        passed = now_passed;
+impl<'a> VertexTest for DistanceTest<'a> {
+    ghost can_test = { λ t v. IsLawful t.rows.now × (v < vertices t.rows.now)
+        × (length t.d.now.dist ≡ vertices t.rows.now) × (length t.d.now.hops ≡ vertices t.rows.now)
+        × (length t.d.now.parent ≡ vertices t.rows.now)
+        × AreMarks (vertices t.rows.now) (has t.sources.now) t.is_source.items
+        × AreMarks (vertices t.rows.now)
+        (λ u. is_parent t.rows.now t.d.now u (parent_of t.d.now u)) t.is_borne.items };
+
+    ghost fails = { λ t. fails_distances t.rows.now t.sources.now t.d.now };
+
+    ghost reasons = { distance_reasons };
+
+    fn first_reason(&self, v: u32) -> Option<Reason> {
+        let at = v as usize;
+        let (is_source, is_borne) = (self.is_source[at], self.is_borne[at]);
+        first_reason(self.rows, is_source, self.d, v, is_borne)
     }
-    Verdict::Yes
 }
 
 /// The first reason that `v` fails, where `is_source` tells whether it is a source, and `mark` whether its parent bears it

@@ -10,8 +10,9 @@ mod core_order;
 mod cover_checks;
 mod cover_marks;
 mod distance_checks;
-mod source_walks;
+mod source_marks;
 mod tree_marks;
+mod verdict_search;
 mod verdicts;
 
 pub use core_checks::check_cores;

@@ -1,20 +1,19 @@
 -- The laws of a peeling by buckets, each as one statement that a contract can cite.
 use Rattle.jul_core.specs.PeelWork.{Work, IsStart, IsUnderWay, GoesOn, IsPeeledOut}
-use Rattle.std.specs.Prelude.{◌≡◌, ℕ, ◌+◌, ◌<◌, ◌≤◌, List, [], ◌∷◌, ◌++◌, ◌==◌, length, count_by, All, if◌then◌else◌}
+use Rattle.std.specs.Prelude.{◌≡◌, ℕ, ◌+◌, ◌<◌, ◌≤◌, List, [], ◌∷◌, ◌++◌, ◌==◌, length, count_by, All}
 use Rattle.std.specs.List.Sorted.{IsStrictlyIncreasing}
 use Rattle.jul_base.specs.declared.graphs.RawGraph.{RawGraph}
 use Rattle.jul_base.specs.declared.results.Cores.{Cores}
-use Rattle.jul_base.specs.Graph.{vertices, target, IsLawful}
+use Rattle.jul_base.specs.Graph.{vertices, IsLawful}
 use Rattle.jul_base.specs.Levels.{next_bound, taken, peeling, IsLevel}
 use Rattle.jul_base.specs.Logs.{Entry, ADD}
 use Rattle.jul_base.specs.Symmetry.{IsSymmetric}
 use Rattle.jul_core.specs.Peels.{draws_before, AreWritten, IsPeeled, IsLowered, AreDegrees, IsDrawnAt, AreCoredBy, AreCores}
-use Rattle.jul_count.specs.Counts.{reaching}
 use Rattle.jul_bucket.specs.declared.draws.Draw.{Draw}
 use Rattle.jul_bucket.specs.Places.{ids_at, AllNone}
 use Rattle.jul_core.specs.FirstHeld.{IsFirstHeld}
 use Rattle.jul_core.specs.PeelPlaces.{CountsEachPlace, HasAddsOf, HasOneAddEach}
-use Rattle.jul_count.specs.Adds.{weight_from, HasAddsFrom}
+use Rattle.jul_count.specs.Adds.{HasAddsFrom}
 use Rattle.jul_core.specs.PeelMoves.{moves_of, CanMove}
 use Rattle.jul_count.specs.Counts.{AreCounts}
 use Rattle.jul_bucket.specs.Places.{emptied, set_places}

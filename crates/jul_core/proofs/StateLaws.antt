@@ -1,5 +1,5 @@
 -- A turn over buckets: what jul_bucket's clauses and the counts make of what the loop carries.
-use Rattle.std.proofs.Common.{◌≡◌, ◌≢◌, ℕ, ◌<◌, ◌≤◌, List, [], ◌∷◌, ◌++◌, length, sym, ◌∙◌, ap, subst, refl, arith}
+use Rattle.std.proofs.Common.{◌≡◌, ◌≢◌, ℕ, ◌<◌, List, [], ◌∷◌, ◌++◌, length, sym, ◌∙◌, ap, subst, arith}
 use Rattle.std.specs.List.{All}
 use Rattle.std.proofs.lemmas.List.{length-map}
 use Rattle.std.proofs.lemmas.List.Elements.{All-weaker}
@@ -13,7 +13,7 @@ use Rattle.jul_bucket.specs.declared.orders.Order.TheVariants.{Increasing}
 use Rattle.jul_bucket.specs.declared.draws.Draw.{Draw}
 use Rattle.jul_bucket.specs.Orders.{IsNotBehind}
 use Rattle.jul_bucket.specs.Places.{IsFirstHeld, emptied, set_places, ids_at}
-use Rattle.jul_bucket.specs.States.{State, IsDrawn, after_draw}
+use Rattle.jul_bucket.specs.States.{State, IsDrawn}
 use Rattle.jul_core.specs.Peels.{AreWritten}
 use Rattle.jul_count.specs.Adds.{HasAddsFrom}
 use Rattle.jul_core.specs.PeelMoves.{moves_of, CanMove}

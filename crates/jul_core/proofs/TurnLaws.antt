@@ -1,5 +1,5 @@
 -- A turn of the loop, from the draw to the next one.
-use Rattle.std.proofs.Common.{◌≡◌, ◌≢◌, ℕ, ◌+◌, ◌-◌, ◌<◌, ◌≤◌, ◌^◌, eqb, List, [], ◌∷◌, ◌++◌, length, length-append, get_or, take, drop, sym, ◌∙◌, ap, subst, refl, arith, inl, inr, Vec, Global}
+use Rattle.std.proofs.Common.{◌≡◌, ◌≢◌, ℕ, ◌+◌, ◌-◌, ◌<◌, ◌≤◌, ◌^◌, List, [], ◌++◌, length, length-append, get_or, take, drop, sym, ◌∙◌, ap, subst, refl, arith, inl, inr, Vec, Global}
 use Rattle.std.specs.Prelude.{All, slice_index, Option, MatchOption, Some, None}
 use Rattle.std.specs.List.Sorted.{IsStrictlyIncreasing}
 use Rattle.std.proofs.lemmas.Bool.{cases_eq}
@@ -11,17 +11,16 @@ use Rattle.jul_base.specs.declared.graphs.RawGraph.{RawGraph}
 use Rattle.jul_base.specs.declared.limits.TheConstants.{NONE}
 use Rattle.jul_base.specs.declared.results.Cores.{Cores}
 use Rattle.jul_base.specs.Graph.{vertices, IsLawful}
-use Rattle.jul_base.specs.Logs.{Home, Entry}
+use Rattle.jul_base.specs.Logs.{Home}
 use Rattle.jul_base.specs.Symmetry.{IsSymmetric}
 use Rattle.jul_words.specs.Seats.{Seat, rooted, zeros}
 use Rattle.jul_words.specs.Counts.{adds, drained}
 use Rattle.jul_count.specs.Counts.{AreCounts, counted}
 use Rattle.jul_bucket.specs.declared.orders.Order.{Order}
 use Rattle.jul_bucket.specs.declared.orders.Order.TheVariants.{Increasing}
-use Rattle.jul_bucket.specs.declared.draws.Draw.{Draw}
 use Rattle.jul_bucket.specs.Places.{ids_at, emptied, set_places, AllNone}
 use Rattle.jul_bucket.specs.States.{State, IsDrawn}
-use Rattle.jul_count.specs.Adds.{CanCount, HasCounted, AreZero}
+use Rattle.jul_count.specs.Adds.{CanCount}
 use Rattle.jul_core.specs.FirstHeld.{IsFirstHeld}
 use Rattle.jul_core.specs.Peels.{AreWritten, AreDegrees}
 use Rattle.jul_core.specs.PeelMoves.{CanLower}

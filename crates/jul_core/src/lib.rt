@@ -10,7 +10,6 @@ mod columns;
 mod engine;
 mod moving;
 mod rounds;
-mod work;
 
 pub use engine::{PeelOut, cores_of, peel};
 

@@ -6,12 +6,11 @@ ghost use Rattle.jul_core.specs.PeelWork.{IsPeeling, CanRound, HasRound};
 
 use crate::columns::write_at;
 use crate::moving::moves_down;
-use crate::work::reach_of;
 use jul_base::{Gate, MAX_N};
 use jul_bucket::Buckets;
 use jul_count::edge_map_count;
 use jul_pool::Team;
-use jul_rows::Rows;
+use jul_rows::{Rows, reach_of};
 use jul_subset::VertexSubset;
 use jul_words::{CountSeat, CountWords};
 use std::alloc::{AllocError, Global};
@@ -66,8 +65,9 @@ fn lower_reached<R: Threads + Sync, G: Gate>(
 
     ensures { IfOk result (λ r. HasRound rows.now bucket drawn.items seat r buckets.old buckets.new) }
 {
+    let n = rows.n();
     let crew = team.for_work(reach_of(rows, drawn.as_slice()));
-    let from = VertexSubset::from_increasing(alloc, rows.n(), drawn);
+    let from = VertexSubset::from_increasing(alloc, n, drawn);
     let (list, seat) = edge_map_count(rt, alloc, &crew, rows, &from, counts, seat)?;
     let moves = moves_down(rt, alloc, team, list.as_slice(), bucket, buckets)?;
     buckets.update_buckets(moves.as_slice())?;

@@ -7,7 +7,7 @@ ghost use Rattle.jul_dist.specs.Moving.{moves_of, CanGo};
 use jul_base::{Free, Gate};
 use jul_bucket::{Buckets, Dest};
 use jul_pool::{Job, Team, run_all};
-use jul_subset::chunk_at;
+use jul_subset::{chunk_at, joined};
 use std::alloc::{AllocError, Global};
 use std::thread::Threads;
 
@@ -75,16 +75,5 @@ pub(crate) fn moves_to<R: Threads + Sync, G: Gate>(
     };
     let team = team.for_work(ids.len() as u64);
     let done = run_all(rt, alloc, &team, chunks, &job, Free::root())?;
-    appended(alloc, &done.outs)
-}
-
-/// The groups, one after another.
-fn appended(alloc: Global, groups: &Vec<Vec<(u32, u64)>>) -> Result<Vec<(u32, u64)>, AllocError>
-    ensures { IfOk result (λ moves. moves.items ≡ flat_map (λ group. group.items) groups.now.items) }
-{
-    let mut moves = Vec::new(alloc);
-    for group in groups {
-        moves.extend_from_slice(group.as_slice())?;
-    }
-    Ok(moves)
+    joined(alloc, &done.outs)
 }

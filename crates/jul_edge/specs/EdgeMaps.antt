@@ -1,8 +1,9 @@
 -- What an edge map does, and which direction is chosen.
-use Rattle.std.specs.Prelude.{ℕ, ◌+◌, ◌/◌, ◌≤◌, ◌<◌, List, [], ◌++◌, ◌≡◌, ◌↔◌, Bool, true, false, length, map, All, Contains, sum_by, nat_lt, if◌then◌else◌}
+use Rattle.std.specs.Prelude.{ℕ, ◌/◌, ◌≤◌, ◌<◌, List, [], ◌++◌, ◌≡◌, ◌↔◌, Bool, true, false, length, map, All, Contains, nat_lt, if◌then◌else◌}
 use Rattle.jul_base.specs.declared.graphs.RawGraph.{RawGraph}
-use Rattle.jul_base.specs.Graph.{vertices, places, row}
+use Rattle.jul_base.specs.Graph.{vertices, places}
 use Rattle.jul_base.specs.Logs.{Log, Entry, Home, STAMP}
+use Rattle.jul_rows.specs.Reach.{reach}
 use Rattle.jul_words.specs.Seats.{Seat, IsSeatOf, IsAlone}
 use Rattle.jul_subset.specs.Subsets.{Subset}
 use Rattle.jul_subset.specs.Applications.{Done, answered_true, AppliedBy}
@@ -48,10 +49,6 @@ pub record HasStamped (by : Direction) (round : ℕ) (old new : Seat) : Type 0 w
   pub seat_is : new ≡ record { home = old.home; root = old.root; out = old.out; log = old.log ++ entries }
   pub of_round : All (λ (e : Entry). (e.kind ≡ STAMP) × (e.number ≡ round)) entries
   pub none : by ≡ Pull → entries ≡ []
-
--- the members and their places, counted
-abbrev pub reach : RawGraph → List ℕ → ℕ
-reach g members = length members + sum_by (λ u. length (row g u)) members
 
 -- by pull where members and places are more than a twentieth of all places
 abbrev pub direction_for : RawGraph → List ℕ → Direction

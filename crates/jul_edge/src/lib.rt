@@ -18,7 +18,7 @@ pub use maps::{EdgeOut, PullOut};
 pub use pulls::edge_pull;
 pub use pushes::edge_push;
 pub use switching::edge_map;
-pub use thresholds::{edge_map_with_threshold, reach_of};
+pub use thresholds::edge_map_with_threshold;
 
 #[cfg(test)]
 mod tests;

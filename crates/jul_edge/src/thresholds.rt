@@ -1,11 +1,11 @@
 //! The choice between a push and a pull by the caller's own threshold.
-ghost use Rattle.std.specs.Prelude.{◌≡◌, ℕ, ◌<◌, ◌≤◌, ◌^◌, true, length, nat_lt, if◌then◌else◌, All, IfOk};
+ghost use Rattle.std.specs.Prelude.{◌≡◌, ℕ, ◌<◌, ◌≤◌, true, nat_lt, if◌then◌else◌, IfOk};
 ghost use Rattle.jul_base.specs.Graph.{vertices};
 ghost use Rattle.jul_base.specs.InRows.{IsFlip};
 ghost use Rattle.jul_edge.specs.declared.functions.Direction.{Direction};
 ghost use Rattle.jul_edge.specs.declared.functions.Direction.TheVariants.{Push, Pull};
 ghost use Rattle.jul_edge.specs.Edges.{Application, IsWanted};
-ghost use Rattle.jul_edge.specs.EdgeMaps.{HasMapped, CanStamp, HasStamped, reach};
+ghost use Rattle.jul_edge.specs.EdgeMaps.{HasMapped, CanStamp, HasStamped};
 
 use crate::functions::{Direction, EdgeFn};
 use crate::maps::EdgeOut;
@@ -19,24 +19,10 @@ use jul_words::{StampSeat, StampWords};
 use std::alloc::{AllocError, Global};
 use std::thread::Threads;
 
-/// The members and their places, counted.
-pub fn reach_of(rows: &Rows, members: &[u32]) -> u64
-    requires few { length members.now ≤ 2 ^ 24 }
-    requires vertices { All (λ u. u < vertices rows.now) members.now }
-
-    ensures { result ≡ reach rows.now members.now }
-{
-    let mut reach = members.len() as u64;
-    for u in members {
-        reach += u64::from(rows.degree(*u));
-    }
-    reach
-}
-
 /// Applies `f` once to each place from a member of `from` to a target that `f` wants: by pull where `work` is more than
 /// `threshold`, else by push.
 ///
-/// A push costs the members and their places, which `reach_of` counts. A pull that can't end early costs each place that
+/// A push costs the members and their places, which `reach_of` of `jul_rows` counts. A pull that can't end early costs each place that
 /// leads to a wanted target, so it is rarely the lesser work where the threshold is low. After an error the tokens are gone.
 pub fn edge_map_with_threshold<R: Threads + Sync, F: EdgeFn, G: Gate>(
     rt: &R,

@@ -3,3 +3,4 @@ pub mod Filling
 pub mod Balance
 pub mod Gathering
 pub mod Visits
+pub mod Reach

@@ -11,6 +11,7 @@ mod flipping;
 mod in_rows;
 mod out_rows;
 mod pushing;
+mod reaching;
 mod set_rows;
 mod symmetry;
 mod tally;
@@ -19,6 +20,7 @@ mod visits;
 pub use in_rows::InRows;
 pub use out_rows::Rows;
 pub use pushing::{push_members, push_row};
+pub use reaching::reach_of;
 pub use set_rows::SetRows;
 pub use visits::Visit;
 

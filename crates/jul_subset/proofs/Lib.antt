@@ -3,5 +3,6 @@ pub mod MarkLaws
 pub mod ViewLaws
 pub mod ListLaws
 pub mod ChunkLaws
+pub mod GroupLaws
 pub mod ApplicationLaws
 pub mod PickingLaws

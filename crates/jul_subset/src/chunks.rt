@@ -21,18 +21,18 @@ pub fn chunk_at<T>(items: &[T], size: usize, n: usize) -> &[T]
 }
 
 /// The lists of all chunks, one after another. Memory is taken once.
-pub fn joined(alloc: Global, outs: &Vec<Vec<u32>>) -> Result<Vec<u32>, AllocError>
-    ensures { IfOk result (λ ids. ids.items ≡ flat_map (λ out. out.items) outs.now.items) }
+pub fn joined<T: Copy + Drop>(alloc: Global, outs: &Vec<Vec<T>>) -> Result<Vec<T>, AllocError>
+    ensures { IfOk result (λ all. all.items ≡ flat_map (λ out. out.items) outs.now.items) }
 {
-    let mut ids = Vec::with_capacity(alloc, length_of_all(outs))?;
+    let mut all = Vec::with_capacity(alloc, length_of_all(outs))?;
     for out in outs {
-        ids.extend_from_slice(out.as_slice())?;
+        all.extend_from_slice(out.as_slice())?;
     }
-    Ok(ids)
+    Ok(all)
 }
 
-/// How many numbers the lists have together.
-fn length_of_all(outs: &Vec<Vec<u32>>) -> usize {
+/// How many items the lists have together.
+fn length_of_all<T: Drop>(outs: &Vec<Vec<T>>) -> usize {
     let mut len: usize = 0;
     for out in outs {
         len = len.saturating_add(out.len());

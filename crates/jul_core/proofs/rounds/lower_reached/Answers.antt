@@ -1,18 +1,25 @@
-use Rattle.std.proofs.Common.{◌≡◌, ◌≢◌, ◌<◌, ◌≤◌, ◌^◌, ◌∙◌, ap, sym, subst, length, List, ℕ}
+use Rattle.std.proofs.Common.{◌≢◌, ◌<◌, ◌≤◌, ◌^◌, ◌∙◌, ap, sym, subst, length, List, ℕ, arith}
 use Rattle.std.specs.Prelude.{All}
 use Rattle.jul_subset.specs.Subsets.{Subset}
 use Rattle.jul_count.specs.Counts.{AreCounts}
 use Rattle.jul_base.specs.declared.limits.TheConstants.{NONE}
 use Rattle.jul_bucket.specs.Orders.{IsNotBehind}
 use Rattle.jul_core.specs.PeelMoves.{CanLower}
+use Rattle.jul_base.specs.Graph.{vertices}
+use Rattle.jul_subset.proofs.IncreasingLaws.{length_below}
 use Rattle.jul_core.proofs.TurnLaws.{can_lower, counts_few}
 use Rattle.jul_core.proofs.MovingLaws.{moves_in, moves_ahead}
 use Rattle.jul_core.proofs.rounds.lower_reached.Goals as goal
 
+pub reach_of-requires-clause-few : goal.reach_of-requires-clause-few
+reach_of-requires-clause-few g c =
+    let most : length c.args.drawn.items ≤ vertices c.args.rows.now = length_below c.args.drawn.items (vertices c.args.rows.now) c.requires.can.increasing c.requires.can.within in
+    omega (arith, most, c.n-n.ensures.lawful.few_vertices, ap length c.as_slice.ensures.value)
+
 pub moves_down-requires-clause-few : goal.moves_down-requires-clause-few
 moves_down-requires-clause-few g c κs within =
     subst (λ (l : List (ℕ × ℕ)). length l < 2 ^ 32) (sym c.as_slice-2.ensures.value)
-    (counts_few c.args.rows.now c.from_increasing-from.result.members c.in_ok-list.list.items c.n.ensures.lawful c.in_ok-list.ensures.counts)
+    (counts_few c.args.rows.now c.from_increasing-from.result.members c.in_ok-list.list.items c.n-n.ensures.lawful c.in_ok-list.ensures.counts)
 
 pub update_buckets-requires-clause-ids : goal.update_buckets-requires-clause-ids
 update_buckets-requires-clause-ids g c =

@@ -1,7 +1,7 @@
 use Rattle.std.proofs.Common.{◌≡◌, ◌+◌, ◌*◌, ◌≤◌, length, take}
 use Rattle.std.specs.Prelude.{sum_by}
 use Rattle.jul_base.specs.Graph.{row}
-use Rattle.jul_edge.proofs.thresholds.reach_of.Given as goal
+use Rattle.jul_rows.proofs.reaching.reach_of.Given as goal
 
 abbrev pub invariant-loop-u : goal.invariant-loop-u
 invariant-loop-u l = record {
