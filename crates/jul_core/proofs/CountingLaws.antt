@@ -1,9 +1,9 @@
 -- Sums over lists: term by term, over a list that rises, over the two parts of a filter.
-use Rattle.jul_count.proofs.SumLaws.{has_here, has_later, sum_by-same_in}
-use Rattle.std.proofs.Common.{◌≡◌, ℕ, suc, ◌+◌, ◌<◌, ◌≤◌, true, eqb, cond, List, [], ◌∷◌, get_or, sym, refl, arith, inl, inr}
+use Rattle.jul_count.proofs.SumLaws.{has_later, sum_by-same_in}
+use Rattle.std.proofs.Common.{◌≡◌, ℕ, suc, ◌+◌, ◌<◌, true, eqb, cond, List, [], ◌∷◌, get_or, sym, refl, arith, inl, inr}
 use Rattle.std.specs.List.{sum_by, count_by, AllPairs}
 use Rattle.std.specs.List.Sorted.{IsStrictlyIncreasing}
-use Rattle.std.proofs.lemmas.Bool.{cases_Bool, cases_eq, both_ways, cond-true, cond-false, or_left, or_right, or_cases, eq-eqb, eqb-true, ne_eqb}
+use Rattle.std.proofs.lemmas.Bool.{cases_Bool, cases_eq, both_ways, cond-true, cond-false, or_left, or_cases, eq-eqb, eqb-true, ne_eqb}
 use Rattle.std.proofs.lemmas.List.Sums.{sum_by-cons}
 use Rattle.std.proofs.lemmas.List.Kept.{AllPairs-from_increasing}
 use Rattle.jul_base.specs.Sets.{has}

@@ -1,6 +1,6 @@
 -- A turn of the loop, from the draw to the next one.
-use Rattle.std.proofs.Common.{◌≡◌, ◌≢◌, ℕ, ◌+◌, ◌-◌, ◌<◌, ◌≤◌, ◌^◌, eqb, List, [], ◌∷◌, ◌++◌, length, length-append, get_or, take, drop, sym, ◌∙◌, ap, subst, refl, arith, inl, inr, Vec, Global}
-use Rattle.std.specs.Prelude.{All, slice_index, Option, MatchOption, Some, None}
+use Rattle.std.proofs.Common.{◌≡◌, ◌≢◌, ℕ, ◌+◌, ◌-◌, ◌<◌, ◌≤◌, ◌^◌, List, [], ◌++◌, length, length-append, false, get_or, take, drop, sym, ◌∙◌, ap, subst, refl, arith, inl, inr, Vec, Global}
+use Rattle.std.specs.Prelude.{All, slice_index, Option, MatchOption, Some}
 use Rattle.std.specs.List.Sorted.{IsStrictlyIncreasing}
 use Rattle.std.proofs.lemmas.Bool.{cases_eq}
 use Rattle.std.proofs.lemmas.List.{length-map, length-replicate}
@@ -11,20 +11,20 @@ use Rattle.jul_base.specs.declared.graphs.RawGraph.{RawGraph}
 use Rattle.jul_base.specs.declared.limits.TheConstants.{NONE}
 use Rattle.jul_base.specs.declared.results.Cores.{Cores}
 use Rattle.jul_base.specs.Graph.{vertices, IsLawful}
-use Rattle.jul_base.specs.Logs.{Home, Entry}
+use Rattle.jul_base.specs.Logs.{Home}
 use Rattle.jul_base.specs.Symmetry.{IsSymmetric}
 use Rattle.jul_words.specs.Seats.{Seat, rooted, zeros}
 use Rattle.jul_words.specs.Counts.{adds, drained}
 use Rattle.jul_count.specs.Counts.{AreCounts, counted}
 use Rattle.jul_bucket.specs.declared.orders.Order.{Order}
 use Rattle.jul_bucket.specs.declared.orders.Order.TheVariants.{Increasing}
-use Rattle.jul_bucket.specs.declared.draws.Draw.{Draw}
 use Rattle.jul_bucket.specs.Places.{ids_at, emptied, set_places, AllNone}
 use Rattle.jul_bucket.specs.States.{State, IsDrawn}
-use Rattle.jul_count.specs.Adds.{CanCount, HasCounted, AreZero}
+use Rattle.jul_count.specs.Adds.{CanCount}
 use Rattle.jul_core.specs.FirstHeld.{IsFirstHeld}
 use Rattle.jul_core.specs.Peels.{AreWritten, AreDegrees}
 use Rattle.jul_core.specs.PeelMoves.{CanLower}
+use Rattle.jul_subset.specs.Subsets.{Subset}
 use Rattle.jul_core.specs.PeelWork.{IsPeeling, CanRound, HasRound, IsPeeledOut, work_of}
 use Rattle.jul_core.proofs.LowerLaws.{emptied-drawn, emptied-other}
 use Rattle.jul_core.proofs.PeelStatementLaws.{rounds_are_few}
@@ -36,13 +36,6 @@ use Rattle.jul_core.proofs.StateLaws.{turn}
 pub drawn_at : (s mid : State) (o : Option (ℕ × Vec ℕ Global)) (b : ℕ) (ids : Vec ℕ Global) → o ≡ Some (b, ids) →
     MatchOption o (AllNone s.places × (mid ≡ s)) (λ d. IsDrawn s d.0 d.1.items mid) → IsDrawn s b ids.items mid
 drawn_at s mid o b ids is h = subst (λ x. MatchOption x (AllNone s.places × (mid ≡ s)) (λ d. IsDrawn s d.0 d.1.items mid)) is h
-
--- none was left
-pub ended_at : (P : State → Type 0) (s mid : State) (o : Option (ℕ × Vec ℕ Global)) → o ≡ None →
-    MatchOption o (AllNone s.places × (mid ≡ s)) (λ d. IsDrawn s d.0 d.1.items mid) → P s → P mid × AllNone mid.places
-ended_at P s mid o is h p =
-    let e : AllNone s.places × (mid ≡ s) = subst (λ x. MatchOption x (AllNone s.places × (mid ≡ s)) (λ d. IsDrawn s d.0 d.1.items mid)) is h in
-    (subst P (sym e.1) p, subst (λ (t : State). AllNone t.places) (sym e.1) e.0)
 
 module _ (g : RawGraph) (lawful : IsLawful g) (table : List ℕ) (home : Home) (core level : List ℕ) (seat : Seat) (s : State) (h : IsPeeling g table home core level seat s)
     (bucket : ℕ) (ids : List ℕ) (mid : State) (drawn : IsDrawn s bucket ids mid) where
@@ -125,9 +118,10 @@ module _ (g : RawGraph) (lawful : IsLawful g) (table : List ℕ) (home : Home) (
           zero = round.zero;
         }
 
--- what is counted may be moved
-pub can_lower : (g : RawGraph) (table : List ℕ) (bucket : ℕ) (ids : List ℕ) (seat : Seat) (s : State) (counts : List (ℕ × ℕ)) → CanRound g table bucket ids seat s → AreCounts g ids counts → CanLower s bucket counts
-can_lower g table bucket ids seat s counts can are = record {
+-- what is counted, and lent, may be moved
+pub can_lower : (g : RawGraph) (table : List ℕ) (bucket : ℕ) (ids : List ℕ) (seat : Seat) (s : State) (from : Subset) (counts lent : List (ℕ × ℕ)) → CanRound g table bucket ids seat s →
+    from ≡ (let s : Subset = record { n = vertices g; members = ids; dense = false } in s) → AreCounts g from.members counts → lent ≡ counts → CanLower s bucket lent
+can_lower g table bucket ids seat s from counts lent can from_is are lent_is = subst (CanLower s bucket) (sym lent_is) (record {
   order = can.order;
   front = can.front;
   ahead = λ k d lt.
@@ -135,7 +129,7 @@ can_lower g table bucket ids seat s counts can are = record {
       let within : e.0 < vertices g = are.within k d lt in
       let range : e.0 < length s.places = omega (arith, within, can.size) in
       record { in_range = range; some = are.some k d lt; later = λ some. can.later e.0 within some };
-}
+})
 
 -- no more vertices are counted than there are
 pub counts_few : (g : RawGraph) (ids : List ℕ) (counts : List (ℕ × ℕ)) → IsLawful g → AreCounts g ids counts → length counts < 2 ^ 32

@@ -1,11 +1,11 @@
 -- The places of a graph, row by row, and those counted by a peeling.
 use Rattle.jul_count.specs.Adds.{weight_from, add_weight}
-use Rattle.std.specs.Prelude.{◌≡◌, ℕ, ◌-◌, ◌<◌, ◌==◌, ◌&&◌, List, count_by, if◌then◌else◌}
-use Rattle.std.specs.List.{sum_by, range_with_len}
+use Rattle.std.specs.Prelude.{◌≡◌, ℕ, ◌<◌, ◌==◌, ◌&&◌, List, count_by}
+use Rattle.std.specs.List.{sum_by}
 use Rattle.jul_base.specs.declared.graphs.RawGraph.{RawGraph}
 use Rattle.jul_base.specs.Numbers.{below}
 use Rattle.jul_base.specs.Logs.{Entry, ADD}
-use Rattle.jul_base.specs.Graph.{places, target, row_start, row_end}
+use Rattle.jul_base.specs.Graph.{places, target}
 use Rattle.jul_bucket.specs.declared.draws.Draw.{Draw}
 
 -- the places from drawn vertices are all places, each once: they weigh as much, whatever the weight of each place

@@ -2,7 +2,7 @@
 use Rattle.std.specs.Prelude.{◌≡◌, ◌≢◌, ℕ, ◌<◌, All, slice_index, List, [], ◌∷◌, ◌++◌, length}
 use Rattle.jul_base.specs.declared.graphs.RawGraph.{RawGraph}
 use Rattle.jul_base.specs.declared.results.Cores.{Cores}
-use Rattle.jul_base.specs.Graph.{vertices, IsLawful}
+use Rattle.jul_base.specs.Graph.{vertices}
 use Rattle.jul_base.specs.Logs.{Entry, Home}
 use Rattle.jul_words.specs.Seats.{Seat, IsSeatOf, IsAlone}
 use Rattle.jul_bucket.specs.declared.orders.Order.TheVariants.{Increasing}
@@ -10,10 +10,9 @@ use Rattle.jul_bucket.specs.States.{State}
 use Rattle.jul_count.specs.Adds.{AreZero, CanCount, HasCounted}
 use Rattle.jul_base.specs.declared.limits.TheConstants.{NONE}
 use Rattle.std.specs.List.Sorted.{IsStrictlyIncreasing}
-use Rattle.jul_base.specs.Symmetry.{IsSymmetric}
 use Rattle.jul_core.specs.Peels.{draws_before, IsPeeled, AreDegrees, AreWritten, AreCoredBy, AreCores, IsDrawnAt}
 use Rattle.jul_bucket.specs.declared.draws.Draw.{Draw}
-use Rattle.jul_bucket.specs.Places.{ids_at, AllNone}
+use Rattle.jul_bucket.specs.Places.{ids_at}
 use Rattle.jul_core.specs.FirstHeld.{IsFirstHeld}
 use Rattle.jul_core.specs.PeelPlaces.{HasAddsOf, HasOneAddEach}
 use Rattle.jul_count.specs.Adds.{HasAddsFrom}

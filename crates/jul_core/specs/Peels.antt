@@ -1,14 +1,14 @@
 -- What a peeling by buckets keeps from round to round.
 use Rattle.jul_count.specs.Counts.{reaching}
-use Rattle.std.specs.Prelude.{◌≡◌, ◌≢◌, ℕ, ◌-◌, ◌<◌, ◌≤◌, ◌==◌, max, List, [], length, map, All, Contains, slice_index, if◌then◌else◌}
-use Rattle.std.specs.List.{filter, sum_by, slice_index_or}
+use Rattle.std.specs.Prelude.{◌≡◌, ◌≢◌, ℕ, ◌-◌, ◌<◌, max, List, [], length, map, Contains, slice_index, if◌then◌else◌}
+use Rattle.std.specs.List.{slice_index_or}
 use Rattle.jul_bucket.specs.declared.draws.Draw.{Draw}
 use Rattle.jul_bucket.specs.Places.{ids_at}
 use Rattle.jul_base.specs.declared.graphs.RawGraph.{RawGraph}
 use Rattle.jul_base.specs.declared.limits.TheConstants.{NONE}
 use Rattle.jul_base.specs.declared.results.Cores.{Cores}
 use Rattle.jul_base.specs.Numbers.{below}
-use Rattle.jul_base.specs.Graph.{vertices, row, count}
+use Rattle.jul_base.specs.Graph.{vertices, row}
 use Rattle.jul_base.specs.Sets.{has}
 use Rattle.jul_base.specs.Coreness.{inner_degree, IsCoreness}
 use Rattle.jul_base.specs.Levels.{Peeling, next_bound, taken, peeling, IsLevel}

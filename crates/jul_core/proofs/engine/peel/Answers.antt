@@ -1,6 +1,4 @@
-use Rattle.std.proofs.Common.{◌≡◌, ◌∙◌, ap, sym, subst, refl, arith, length}
-use Rattle.jul_base.specs.declared.results.Cores.{Cores}
-use Rattle.jul_base.specs.Graph.{vertices}
+use Rattle.std.proofs.Common.{◌≡◌, ◌∙◌, ap, sym, subst, arith, length}
 use Rattle.jul_core.specs.Peels.{AreCores}
 use Rattle.jul_core.proofs.TurnLaws.{start_at, peeled_out, written_back}
 use Rattle.jul_core.proofs.engine.peel.Goals as goal
