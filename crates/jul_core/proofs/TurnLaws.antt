@@ -87,18 +87,18 @@ module _ (g : RawGraph) (lawful : IsLawful g) (table : List ℕ) (home : Home) (
     later = later;
   }
 
+  draws_grew : (seat' : Seat) (new : State) → HasRound g bucket ids seat seat' mid new → length new.draws ≡ length s.draws + 1
+  draws_grew seat' new round =
+      ap (λ (s : State). length s.draws) round.moved ∙ ap (λ (s : State). length s.draws) drawn.after ∙ length-append s.draws _
+
+  -- fewer rounds are left
+  pub fewer : (seat' : Seat) (new : State) → HasRound g bucket ids seat seat' mid new → vertices g - length new.draws < vertices g - length s.draws
+  fewer seat' new round =
+      let few : length s.draws < vertices g = rounds_are_few g (length s.draws) bucket s.places s.draws lawful h.under_way.peeled first in
+      omega (arith, few, draws_grew seat' new round)
+
   module _ (core' level' : List ℕ) (lent lent' : List ℕ) (seat' : Seat) (new : State) (lent_is : lent ≡ ids) (lent_is' : lent' ≡ ids)
       (levels : AreWritten lent (length s.draws) level level') (cores : AreWritten lent' bucket core core') (round : HasRound g bucket ids seat seat' mid new) where
-    draws_grew : length new.draws ≡ length s.draws + 1
-    draws_grew =
-        ap (λ (s : State). length s.draws) round.moved ∙ ap (λ (s : State). length s.draws) drawn.after ∙ length-append s.draws _
-
-    -- fewer rounds are left
-    pub fewer : vertices g - length new.draws < vertices g - length s.draws
-    fewer =
-        let few : length s.draws < vertices g = rounds_are_few g (length s.draws) bucket s.places s.draws lawful h.under_way.peeled first in
-        omega (arith, few, draws_grew)
-
     pub still_peeling : IsSymmetric g → IsPeeling g table home core' level' seat' new
     still_peeling symmetric =
         let did = round.counted_is in
