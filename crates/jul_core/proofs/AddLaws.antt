@@ -2,7 +2,7 @@
 use Rattle.std.proofs.Common.{◌≡◌, ℕ, zero, suc, ◌<◌, ◌≤◌, Bool, true, false, ◌&&◌, eqb, cond, List, [], sym, ◌∙◌, ap, refl, arith, inl, inr}
 use Rattle.std.specs.List.{sum_by, count_by}
 use Rattle.std.proofs.lemmas.Bool.{cases_eq, cond-true, cond-false, eq-eqb, ne_eqb}
-use Rattle.std.proofs.lemmas.List.Sums.{sum_by-append, sum_by_push, sum_by-le-sum_by}
+use Rattle.std.proofs.lemmas.List.Sums.{sum_by-append, sum_by_push}
 use Rattle.jul_base.specs.declared.graphs.RawGraph.{RawGraph}
 use Rattle.jul_base.specs.Numbers.{below}
 use Rattle.jul_base.specs.Logs.{Entry, ADD}
@@ -13,7 +13,7 @@ use Rattle.jul_bucket.specs.Places.{AllNone}
 use Rattle.jul_core.specs.PeelPlaces.{HasAddsOf}
 use Rattle.jul_count.specs.Adds.{weight_from, add_weight}
 use Rattle.jul_core.proofs.PeelStatements.{AddsKeep, AddsAreAll}
-use Rattle.jul_count.proofs.SumLaws.{sum_by-same_in}
+use Rattle.jul_count.proofs.SumLaws.{sum_by-same_in, sum_by-same}
 use Rattle.jul_core.proofs.PlaceSumLaws.{below-more}
 use Rattle.jul_core.proofs.PeelStatementLaws.{places_are_counted_once}
 
@@ -37,12 +37,6 @@ all_adds g t column draws log lawful peeled none adds weight =
     adds weight ∙ places_are_counted_once g t column draws lawful peeled none (λ p. weight (target g p) p)
 
 -- ---- weights that count
-
-same_sum : (f h : Entry → ℕ) (log : List Entry) → ((e : Entry) → f e ≡ h e) → sum_by f log ≡ sum_by h log
-same_sum f h log same =
-    let up : sum_by f log ≤ sum_by h log = sum_by-le-sum_by f h log (λ e. omega (arith, same e)) in
-    let down : sum_by h log ≤ sum_by f log = sum_by-le-sum_by h f log (λ e. omega (arith, same e)) in
-    omega arith
 
 both_tests : (a b : Bool) → cond {A = ℕ} (a && b) 1 0 ≡ cond a (cond {A = ℕ} b 1 0) 0
 both_tests true b = refl
@@ -89,24 +83,24 @@ target_test g p q =
 pub count_adds : (g : RawGraph) (draws : List Draw) (log : List Entry) → HasAddsOf g draws log →
     count_by (λ (e : Entry). eqb e.kind ADD) log ≡ sum_by (λ (d : Draw). weight_from g (λ p. 1) d.ids) draws
 count_adds g draws log adds =
-    same_sum (λ e. cond {A = ℕ} (eqb e.kind ADD) 1 0) (add_weight (λ v q. 1)) log (λ e. one_test (eqb e.kind ADD)) ∙ adds (λ v q. 1)
+    sum_by-same (λ e. cond {A = ℕ} (eqb e.kind ADD) 1 0) (add_weight (λ v q. 1)) log (λ e. one_test (eqb e.kind ADD)) ∙ adds (λ v q. 1)
 
 pub adds_are_all : AddsAreAll
 adds_are_all g t column draws log lawful peeled none adds = record {
   once = λ p lt.
-      same_sum (λ e. cond {A = ℕ} (eqb e.kind ADD && eqb e.number p) 1 0) (add_weight (λ v q. cond {A = ℕ} (eqb q p) 1 0)) log
+      sum_by-same (λ e. cond {A = ℕ} (eqb e.kind ADD && eqb e.number p) 1 0) (add_weight (λ v q. cond {A = ℕ} (eqb q p) 1 0)) log
       (λ e. both_tests (eqb e.kind ADD) (eqb e.number p))
       ∙ all_adds g t column draws log lawful peeled none adds (λ v q. cond {A = ℕ} (eqb q p) 1 0)
       ∙ one_below p (places g) lt;
   targets = λ p lt.
       let f : ℕ → ℕ → ℕ = λ v q. cond {A = ℕ} (eqb v (target g p) && eqb q p) 1 0 in
-      same_sum (λ e. cond {A = ℕ} (eqb e.kind ADD && (eqb e.vertex (target g p) && eqb e.number p)) 1 0) (add_weight f) log
+      sum_by-same (λ e. cond {A = ℕ} (eqb e.kind ADD && (eqb e.vertex (target g p) && eqb e.number p)) 1 0) (add_weight f) log
       (λ e. both_tests (eqb e.kind ADD) (eqb e.vertex (target g p) && eqb e.number p))
       ∙ all_adds g t column draws log lawful peeled none adds f
       ∙ sum_by-same_in (λ q. f (target g q) q) (λ q. cond {A = ℕ} (eqb q p) 1 0) (below (places g)) (λ q held. target_test g p q)
       ∙ one_below p (places g) lt;
   total =
-      same_sum (λ e. cond {A = ℕ} (eqb e.kind ADD) 1 0) (add_weight (λ v q. 1)) log (λ e. one_test (eqb e.kind ADD))
+      sum_by-same (λ e. cond {A = ℕ} (eqb e.kind ADD) 1 0) (add_weight (λ v q. 1)) log (λ e. one_test (eqb e.kind ADD))
       ∙ all_adds g t column draws log lawful peeled none adds (λ v q. 1)
       ∙ all_below (places g);
 }

@@ -63,9 +63,6 @@ columns_keep g t old new cored levels cores = record {
 
 -- ---- a loop that writes a number at each id
 
-pub written-none : (x : ℕ) (column : List ℕ) → AreWritten [] x column column
-written-none x column = record { size = refl; at = λ v v_lt (k, lt, is). absurd (omega arith); other = λ v v_lt apart. refl }
-
 pub written-more : (ids : List ℕ) (i id x : ℕ) (old new : List ℕ) → i < length ids → id ≡ get_or ids i id → id < length old →
     AreWritten (take i ids) x old new → AreWritten (take (i + 1) ids) x old (set new id x)
 written-more ids i id x old new lt is in_range before =

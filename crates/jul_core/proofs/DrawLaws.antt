@@ -10,11 +10,10 @@ use Rattle.jul_base.specs.Graph.{vertices}
 use Rattle.jul_base.specs.Sets.{has}
 use Rattle.jul_base.specs.Coreness.{inner_degree}
 use Rattle.jul_base.specs.Levels.{next_bound, taken, peeling, IsLevel}
-use Rattle.jul_base.proofs.SetLaws.{has-from_Contains, Contains-from_has}
+use Rattle.jul_base.proofs.SetLaws.{has-from_Contains}
 use Rattle.jul_base.proofs.PeelLaws.{has_below}
 use Rattle.jul_core.specs.Peels.{draw_in, draws_before, draw_at}
 use Rattle.jul_bucket.specs.declared.draws.Draw.{Draw}
-use Rattle.jul_core.proofs.PeelStatements.{EachHasALevel}
 use Rattle.jul_core.proofs.StageLaws.{least-is, taken-is, taken-here, stays-is, stays-here, parts_sum, parts_length}
 
 -- who is left was left before
@@ -98,11 +97,3 @@ left-few g (suc t) v left =
 
 pub rounds-few : (g : RawGraph) (t v : ℕ) → has (peeling g t).left v ≡ true → t < vertices g
 rounds-few g t v left = omega (arith, left-few g t v left, some-length (peeling g t).left v left)
-
--- after as many rounds as there are vertices none is left, so each vertex has a level
-pub level_exists : EachHasALevel
-level_exists g v v_lt =
-    elim (cases_Bool (has (peeling g (vertices g)).left v)) [
-      | inl left ↦ absurd (omega (arith, rounds-few g (vertices g) v left))
-      | inr gone ↦ let (t, lt, is) = drawn_before g v (vertices g) v_lt gone in (t, lt, Contains-from_has (taken g (peeling g t)) v is)
-    ]

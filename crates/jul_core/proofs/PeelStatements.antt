@@ -5,7 +5,7 @@ use Rattle.std.specs.List.Sorted.{IsStrictlyIncreasing}
 use Rattle.jul_base.specs.declared.graphs.RawGraph.{RawGraph}
 use Rattle.jul_base.specs.declared.results.Cores.{Cores}
 use Rattle.jul_base.specs.Graph.{vertices, IsLawful}
-use Rattle.jul_base.specs.Levels.{next_bound, taken, peeling, IsLevel}
+use Rattle.jul_base.specs.Levels.{next_bound, taken, peeling}
 use Rattle.jul_base.specs.Logs.{Entry, ADD}
 use Rattle.jul_base.specs.Symmetry.{IsSymmetric}
 use Rattle.jul_core.specs.Peels.{draws_before, AreWritten, IsPeeled, IsLowered, AreDegrees, IsDrawnAt, AreCoredBy, AreCores}
@@ -14,13 +14,9 @@ use Rattle.jul_bucket.specs.Places.{ids_at, AllNone}
 use Rattle.jul_core.specs.FirstHeld.{IsFirstHeld}
 use Rattle.jul_core.specs.PeelPlaces.{CountsEachPlace, HasAddsOf, HasOneAddEach}
 use Rattle.jul_count.specs.Adds.{HasAddsFrom}
-use Rattle.jul_core.specs.PeelMoves.{moves_of, CanMove}
+use Rattle.jul_core.specs.PeelMoves.{moves_of}
 use Rattle.jul_count.specs.Counts.{AreCounts}
 use Rattle.jul_bucket.specs.Places.{emptied, set_places}
-
--- each vertex has a level
-abbrev pub EachHasALevel : Type 0
-EachHasALevel = (g : RawGraph) (v : ℕ) → v < vertices g → (t : ℕ) × (t < vertices g) × IsLevel g v t
 
 -- buckets that hold the degrees, and no draws, are a start
 abbrev pub DegreesStart : Type 0
@@ -63,13 +59,6 @@ CountsLower =
     (g : RawGraph) (old : List ℕ) (bucket : ℕ) (counts : List (ℕ × ℕ)) → length old ≡ vertices g → IsFirstHeld old bucket →
     AreCounts g (ids_at old bucket) counts →
     IsLowered g old bucket (set_places (emptied old bucket) (moves_of (emptied old bucket) bucket counts))
-
--- and buckets take them
-abbrev pub CountsMove : Type 0
-CountsMove =
-    (g : RawGraph) (t : ℕ) (old : List ℕ) (draws : List Draw) (bucket : ℕ) (counts : List (ℕ × ℕ)) → IsLawful g →
-    IsPeeled g t old draws → IsFirstHeld old bucket → AreCounts g (ids_at old bucket) counts →
-    All (CanMove (vertices g) bucket) (moves_of (emptied old bucket) bucket counts)
 
 -- columns in which each level is written stay right
 abbrev pub ColumnsKeep : Type 0

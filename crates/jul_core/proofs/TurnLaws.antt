@@ -1,6 +1,6 @@
 -- A turn of the loop, from the draw to the next one.
-use Rattle.std.proofs.Common.{◌≡◌, ◌≢◌, ℕ, ◌+◌, ◌-◌, ◌<◌, ◌≤◌, ◌^◌, List, [], ◌++◌, length, length-append, get_or, take, drop, sym, ◌∙◌, ap, subst, refl, arith, inl, inr, Vec, Global}
-use Rattle.std.specs.Prelude.{All, slice_index, Option, MatchOption, Some, None}
+use Rattle.std.proofs.Common.{◌≡◌, ◌≢◌, ℕ, ◌+◌, ◌-◌, ◌<◌, ◌≤◌, ◌^◌, List, [], ◌++◌, length, length-append, false, get_or, take, drop, sym, ◌∙◌, ap, subst, refl, arith, inl, inr, Vec, Global}
+use Rattle.std.specs.Prelude.{All, slice_index, Option, MatchOption, Some}
 use Rattle.std.specs.List.Sorted.{IsStrictlyIncreasing}
 use Rattle.std.proofs.lemmas.Bool.{cases_eq}
 use Rattle.std.proofs.lemmas.List.{length-map, length-replicate}
@@ -24,6 +24,7 @@ use Rattle.jul_count.specs.Adds.{CanCount}
 use Rattle.jul_core.specs.FirstHeld.{IsFirstHeld}
 use Rattle.jul_core.specs.Peels.{AreWritten, AreDegrees}
 use Rattle.jul_core.specs.PeelMoves.{CanLower}
+use Rattle.jul_subset.specs.Subsets.{Subset}
 use Rattle.jul_core.specs.PeelWork.{IsPeeling, CanRound, HasRound, IsPeeledOut, work_of}
 use Rattle.jul_core.proofs.LowerLaws.{emptied-drawn, emptied-other}
 use Rattle.jul_core.proofs.PeelStatementLaws.{rounds_are_few}
@@ -35,13 +36,6 @@ use Rattle.jul_core.proofs.StateLaws.{turn}
 pub drawn_at : (s mid : State) (o : Option (ℕ × Vec ℕ Global)) (b : ℕ) (ids : Vec ℕ Global) → o ≡ Some (b, ids) →
     MatchOption o (AllNone s.places × (mid ≡ s)) (λ d. IsDrawn s d.0 d.1.items mid) → IsDrawn s b ids.items mid
 drawn_at s mid o b ids is h = subst (λ x. MatchOption x (AllNone s.places × (mid ≡ s)) (λ d. IsDrawn s d.0 d.1.items mid)) is h
-
--- none was left
-pub ended_at : (P : State → Type 0) (s mid : State) (o : Option (ℕ × Vec ℕ Global)) → o ≡ None →
-    MatchOption o (AllNone s.places × (mid ≡ s)) (λ d. IsDrawn s d.0 d.1.items mid) → P s → P mid × AllNone mid.places
-ended_at P s mid o is h p =
-    let e : AllNone s.places × (mid ≡ s) = subst (λ x. MatchOption x (AllNone s.places × (mid ≡ s)) (λ d. IsDrawn s d.0 d.1.items mid)) is h in
-    (subst P (sym e.1) p, subst (λ (t : State). AllNone t.places) (sym e.1) e.0)
 
 module _ (g : RawGraph) (lawful : IsLawful g) (table : List ℕ) (home : Home) (core level : List ℕ) (seat : Seat) (s : State) (h : IsPeeling g table home core level seat s)
     (bucket : ℕ) (ids : List ℕ) (mid : State) (drawn : IsDrawn s bucket ids mid) where
@@ -93,18 +87,18 @@ module _ (g : RawGraph) (lawful : IsLawful g) (table : List ℕ) (home : Home) (
     later = later;
   }
 
+  draws_grew : (seat' : Seat) (new : State) → HasRound g bucket ids seat seat' mid new → length new.draws ≡ length s.draws + 1
+  draws_grew seat' new round =
+      ap (λ (s : State). length s.draws) round.moved ∙ ap (λ (s : State). length s.draws) drawn.after ∙ length-append s.draws _
+
+  -- fewer rounds are left
+  pub fewer : (seat' : Seat) (new : State) → HasRound g bucket ids seat seat' mid new → vertices g - length new.draws < vertices g - length s.draws
+  fewer seat' new round =
+      let few : length s.draws < vertices g = rounds_are_few g (length s.draws) bucket s.places s.draws lawful h.under_way.peeled first in
+      omega (arith, few, draws_grew seat' new round)
+
   module _ (core' level' : List ℕ) (lent lent' : List ℕ) (seat' : Seat) (new : State) (lent_is : lent ≡ ids) (lent_is' : lent' ≡ ids)
       (levels : AreWritten lent (length s.draws) level level') (cores : AreWritten lent' bucket core core') (round : HasRound g bucket ids seat seat' mid new) where
-    draws_grew : length new.draws ≡ length s.draws + 1
-    draws_grew =
-        ap (λ (s : State). length s.draws) round.moved ∙ ap (λ (s : State). length s.draws) drawn.after ∙ length-append s.draws _
-
-    -- fewer rounds are left
-    pub fewer : vertices g - length new.draws < vertices g - length s.draws
-    fewer =
-        let few : length s.draws < vertices g = rounds_are_few g (length s.draws) bucket s.places s.draws lawful h.under_way.peeled first in
-        omega (arith, few, draws_grew)
-
     pub still_peeling : IsSymmetric g → IsPeeling g table home core' level' seat' new
     still_peeling symmetric =
         let did = round.counted_is in
@@ -124,9 +118,10 @@ module _ (g : RawGraph) (lawful : IsLawful g) (table : List ℕ) (home : Home) (
           zero = round.zero;
         }
 
--- what is counted may be moved
-pub can_lower : (g : RawGraph) (table : List ℕ) (bucket : ℕ) (ids : List ℕ) (seat : Seat) (s : State) (counts : List (ℕ × ℕ)) → CanRound g table bucket ids seat s → AreCounts g ids counts → CanLower s bucket counts
-can_lower g table bucket ids seat s counts can are = record {
+-- what is counted, and lent, may be moved
+pub can_lower : (g : RawGraph) (table : List ℕ) (bucket : ℕ) (ids : List ℕ) (seat : Seat) (s : State) (from : Subset) (counts lent : List (ℕ × ℕ)) → CanRound g table bucket ids seat s →
+    from ≡ (let s : Subset = record { n = vertices g; members = ids; dense = false } in s) → AreCounts g from.members counts → lent ≡ counts → CanLower s bucket lent
+can_lower g table bucket ids seat s from counts lent can from_is are lent_is = subst (CanLower s bucket) (sym lent_is) (record {
   order = can.order;
   front = can.front;
   ahead = λ k d lt.
@@ -134,7 +129,7 @@ can_lower g table bucket ids seat s counts can are = record {
       let within : e.0 < vertices g = are.within k d lt in
       let range : e.0 < length s.places = omega (arith, within, can.size) in
       record { in_range = range; some = are.some k d lt; later = λ some. can.later e.0 within some };
-}
+})
 
 -- no more vertices are counted than there are
 pub counts_few : (g : RawGraph) (ids : List ℕ) (counts : List (ℕ × ℕ)) → IsLawful g → AreCounts g ids counts → length counts < 2 ^ 32

@@ -1,10 +1,7 @@
 -- A whole round in one call, its ids as a subset, its moves one by one, and how many adds the log has.
-use Rattle.std.proofs.Common.{◌≡◌, ℕ, ◌+◌, ◌-◌, ◌<◌, max, Bool, eqb, List, [], ◌∷◌, ◌++◌, length, get_or, take, sym, ◌∙◌, ap, subst, refl, arith, inl, inr}
+use Rattle.std.proofs.Common.{◌≡◌, ℕ, ◌+◌, ◌<◌, Bool, eqb, [], ◌∷◌, ◌++◌, length, get_or, sym, ◌∙◌, ap, subst, arith}
 use Rattle.std.specs.List.{sum_by}
-use Rattle.std.proofs.lemmas.Bool.{cases_Bool, eq-eqb, ne_eqb}
-use Rattle.std.proofs.lemmas.List.{take_more, append-nil}
 use Rattle.std.proofs.lemmas.List.Kept.{IsStrictlyIncreasing-filter}
-use Rattle.jul_base.specs.declared.limits.TheConstants.{NONE}
 use Rattle.jul_base.specs.Numbers.{below}
 use Rattle.jul_base.specs.Graph.{vertices, places}
 use Rattle.jul_base.proofs.SetLaws.{IsStrictlyIncreasing-below, Contains-from_filter, below-Contains, Contains-from_has}
@@ -13,13 +10,11 @@ use Rattle.jul_core.specs.Peels.{IsLowered, IsPeeled}
 use Rattle.jul_bucket.specs.declared.draws.Draw.{Draw}
 use Rattle.jul_bucket.specs.Places.{ids_at}
 use Rattle.jul_count.specs.Adds.{places_of}
-use Rattle.jul_core.specs.PeelMoves.{moves_of}
 use Rattle.jul_count.specs.Counts.{AreCounts}
 use Rattle.jul_core.proofs.PeelStatements.{AddsAreFew, IdsAreASubset, WholeRoundsKeep}
 use Rattle.jul_core.proofs.DrawLaws.{draws_sum}
 use Rattle.jul_core.proofs.PlaceSumLaws.{all_rows}
 use Rattle.jul_core.proofs.AddLaws.{count_adds, all_below}
-use Rattle.jul_core.proofs.MoveLaws.{moves-none, moves-some}
 use Rattle.jul_core.proofs.LowerLaws.{counts_lower}
 use Rattle.jul_core.proofs.PeelStatementLaws.{rounds_keep}
 
@@ -52,38 +47,3 @@ adds_are_few g t column draws log lawful peeled adds =
       all_rows g lawful (λ (p : ℕ). 1),
       all_below (places g),
     )
-
--- ---- the moves of a loop over the counts
-
-pub moves-append : (now : List ℕ) (bucket : ℕ) (xs ys : List (ℕ × ℕ)) → moves_of now bucket (xs ++ ys) ≡ moves_of now bucket xs ++ moves_of now bucket ys
-moves-append now bucket [] ys = refl
-moves-append now bucket (x ∷ xs) ys =
-    let rest : moves_of now bucket (xs ++ ys) ≡ moves_of now bucket xs ++ moves_of now bucket ys = moves-append now bucket xs ys in
-    elim (cases_Bool (eqb (get_or now x.0 0) NONE)) [
-      | inl none ↦ moves-none now bucket x (xs ++ ys) none ∙ rest ∙ sym (ap (λ l. l ++ moves_of now bucket ys) (moves-none now bucket x xs none))
-      | inr some ↦
-          moves-some now bucket x (xs ++ ys) some
-          ∙ ap (λ l. (x.0, max bucket (get_or now x.0 0 - x.1)) ∷ l) rest
-          ∙ sym (ap (λ l. l ++ moves_of now bucket ys) (moves-some now bucket x xs some))
-    ]
-
--- one count more, of a vertex in no bucket, and of one in a bucket
-one_more : (now : List ℕ) (bucket : ℕ) (counts : List (ℕ × ℕ)) (i : ℕ) (e : ℕ × ℕ) → i < length counts → e ≡ get_or counts i e →
-    moves_of now bucket (take (i + 1) counts) ≡ moves_of now bucket (take i counts) ++ moves_of now bucket (e ∷ [])
-one_more now bucket counts i e lt is =
-    ap (moves_of now bucket) (take_more counts i e lt ∙ ap (λ (x : ℕ × ℕ). take i counts ++ x ∷ []) (sym is))
-    ∙ moves-append now bucket (take i counts) (e ∷ [])
-
-pub moves_more-none : (now : List ℕ) (bucket : ℕ) (counts : List (ℕ × ℕ)) (i : ℕ) (e : ℕ × ℕ) → i < length counts → e ≡ get_or counts i e →
-    get_or now e.0 0 ≡ NONE → moves_of now bucket (take (i + 1) counts) ≡ moves_of now bucket (take i counts)
-moves_more-none now bucket counts i e lt is none =
-    one_more now bucket counts i e lt is
-    ∙ ap (λ l. moves_of now bucket (take i counts) ++ l) (moves-none now bucket e [] (eq-eqb _ _ none))
-    ∙ append-nil (moves_of now bucket (take i counts))
-
-pub moves_more-some : (now : List ℕ) (bucket : ℕ) (counts : List (ℕ × ℕ)) (i : ℕ) (e : ℕ × ℕ) → i < length counts → e ≡ get_or counts i e →
-    (get_or now e.0 0 ≡ NONE → ⊥) →
-    moves_of now bucket (take (i + 1) counts) ≡ moves_of now bucket (take i counts) ++ (e.0, max bucket (get_or now e.0 0 - e.1)) ∷ []
-moves_more-some now bucket counts i e lt is some =
-    one_more now bucket counts i e lt is
-    ∙ ap (λ l. moves_of now bucket (take i counts) ++ l) (moves-some now bucket e [] (ne_eqb _ _ some))

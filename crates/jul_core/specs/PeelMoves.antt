@@ -1,5 +1,5 @@
 -- From counts to new places: the moves of a round.
-use Rattle.std.specs.Prelude.{◌≡◌, ℕ, ◌-◌, ◌<◌, ◌≤◌, ◌==◌, max, ◌≢◌, List, [], ◌∷◌, length, All, slice_index, if◌then◌else◌}
+use Rattle.std.specs.Prelude.{◌≡◌, ℕ, ◌-◌, ◌<◌, ◌==◌, max, ◌≢◌, List, [], ◌∷◌, length, All, slice_index, if◌then◌else◌}
 use Rattle.jul_bucket.specs.declared.orders.Order.TheVariants.{Increasing}
 use Rattle.jul_bucket.specs.States.{State}
 use Rattle.jul_base.specs.declared.limits.TheConstants.{NONE}
@@ -10,12 +10,6 @@ moves_of places bucket [] = []
 moves_of places bucket (e ∷ es) =
     if slice_index places e.0 == NONE then moves_of places bucket es
     else ((e.0, max bucket (slice_index places e.0 - e.1)) ∷ moves_of places bucket es)
-
--- a move of an id to a bucket that isn't behind the one drawn
-pub record CanMove (n bucket : ℕ) (move : ℕ × ℕ) : Type 0 where
-  pub in_range : move.0 < n
-  pub not_behind : bucket ≤ move.1
-  pub is_bucket : move.1 < NONE
 
 -- the move of one vertex counted, or none where it is in no bucket
 abbrev pub move_of : List ℕ → ℕ → ℕ × ℕ → List (ℕ × ℕ)

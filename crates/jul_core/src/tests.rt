@@ -8,7 +8,7 @@ ghost use Rattle.jul_core.specs.Peels.{AreDegrees};
 
 use crate::columns::degrees;
 use crate::{cores_of, peel};
-use jul_base::{Gate, Ids, OpenGate, RawGraph};
+use jul_base::{Gate, Ids, MAX_N, OpenGate, RawGraph};
 use jul_bucket::{Buckets, Order};
 use jul_pool::Team;
 use jul_rows::Rows;
@@ -60,6 +60,7 @@ fn buckets_for(alloc: Global, rows: &Rows) -> Result<Buckets, AllocError>
     ensures degrees { IfOk result (λ b. AreDegrees rows.now b.places) }
     ensures no_draws { IfOk result (λ b. b.draws ≡ []) }
 {
+    prove!(rows.n() <= MAX_N);
     let places = degrees(alloc, rows)?;
     Buckets::make(alloc, Order::Increasing, 2, places.as_slice())
 }

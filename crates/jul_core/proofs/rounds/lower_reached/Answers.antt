@@ -1,10 +1,5 @@
-use Rattle.std.proofs.Common.{◌≢◌, ◌<◌, ◌≤◌, ◌^◌, ◌∙◌, ap, sym, subst, length, List, ℕ, arith}
-use Rattle.std.specs.Prelude.{All}
+use Rattle.std.proofs.Common.{◌<◌, ◌^◌, ◌∙◌, ap, sym, subst, length, List, ℕ, false, arith, ◌≤◌}
 use Rattle.jul_subset.specs.Subsets.{Subset}
-use Rattle.jul_count.specs.Counts.{AreCounts}
-use Rattle.jul_base.specs.declared.limits.TheConstants.{NONE}
-use Rattle.jul_bucket.specs.Orders.{IsNotBehind}
-use Rattle.jul_core.specs.PeelMoves.{CanLower}
 use Rattle.jul_base.specs.Graph.{vertices}
 use Rattle.jul_subset.proofs.IncreasingLaws.{length_below}
 use Rattle.jul_core.proofs.TurnLaws.{can_lower, counts_few}
@@ -23,16 +18,14 @@ moves_down-requires-clause-few g c κs within =
 
 pub update_buckets-requires-clause-ids : goal.update_buckets-requires-clause-ids
 update_buckets-requires-clause-ids g c =
-    let are : AreCounts c.args.rows.now c.args.drawn.items c.in_ok-list.list.items = subst (λ (s : Subset). AreCounts c.args.rows.now s.members c.in_ok-list.list.items) c.from_increasing-from.ensures.subset c.in_ok-list.ensures.counts in
-    let made = c.as_slice-3.ensures.value ∙ c.in_ok-moves.ensures in
-    subst (All (λ (m : ℕ × ℕ). m.0 < length c.args.buckets.now.places)) (sym made)
-    (moves_in c.args.buckets.now c.args.bucket _ (subst (λ l. CanLower c.args.buckets.now c.args.bucket l) (sym c.as_slice-2.ensures.value)
-    (can_lower c.args.rows.now c.args.counts.now c.args.bucket c.args.drawn.items c.args.seat c.args.buckets.now c.in_ok-list.list.items c.requires.can are)))
+    moves_in c.args.buckets.now c.args.bucket c.as_slice-2.result.now c.as_slice-3.result.now
+    (can_lower c.args.rows.now c.args.counts.now c.args.bucket c.args.drawn.items c.args.seat c.args.buckets.now c.from_increasing-from.result c.in_ok-list.list.items c.as_slice-2.result.now
+    c.requires.can (c.from_increasing-from.ensures.subset ∙ ap (λ n. let s : Subset = record { n = n; members = c.args.drawn.items; dense = false } in s) c.n-n.ensures.count) c.in_ok-list.ensures.counts c.as_slice-2.ensures.value)
+    (c.as_slice-3.ensures.value ∙ c.in_ok-moves.ensures)
 
 pub update_buckets-requires-clause-not_behind : goal.update_buckets-requires-clause-not_behind
 update_buckets-requires-clause-not_behind g c =
-    let are : AreCounts c.args.rows.now c.args.drawn.items c.in_ok-list.list.items = subst (λ (s : Subset). AreCounts c.args.rows.now s.members c.in_ok-list.list.items) c.from_increasing-from.ensures.subset c.in_ok-list.ensures.counts in
-    let made = c.as_slice-3.ensures.value ∙ c.in_ok-moves.ensures in
-    subst (All (λ (m : ℕ × ℕ). m.1 ≢ NONE → IsNotBehind c.args.buckets.now.order m.1 c.args.buckets.now.front)) (sym made)
-    (moves_ahead c.args.buckets.now c.args.bucket _ (subst (λ l. CanLower c.args.buckets.now c.args.bucket l) (sym c.as_slice-2.ensures.value)
-    (can_lower c.args.rows.now c.args.counts.now c.args.bucket c.args.drawn.items c.args.seat c.args.buckets.now c.in_ok-list.list.items c.requires.can are)))
+    moves_ahead c.args.buckets.now c.args.bucket c.as_slice-2.result.now c.as_slice-3.result.now
+    (can_lower c.args.rows.now c.args.counts.now c.args.bucket c.args.drawn.items c.args.seat c.args.buckets.now c.from_increasing-from.result c.in_ok-list.list.items c.as_slice-2.result.now
+    c.requires.can (c.from_increasing-from.ensures.subset ∙ ap (λ n. let s : Subset = record { n = n; members = c.args.drawn.items; dense = false } in s) c.n-n.ensures.count) c.in_ok-list.ensures.counts c.as_slice-2.ensures.value)
+    (c.as_slice-3.ensures.value ∙ c.in_ok-moves.ensures)

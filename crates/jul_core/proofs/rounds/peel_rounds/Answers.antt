@@ -26,8 +26,7 @@ pub rounds-smaller : goal.rounds-smaller
 rounds-smaller g c =
     fewer c.args.rows.now c.n.ensures.lawful c.args.counts.now c.args.seat.home c.rounds.core c.rounds.level c.rounds.seat c.rounds.buckets c.rounds.invariant
     c.in-Some.bucket c.in-Some.ids.items c.next_bucket.new.self (drawn_at c.rounds.buckets c.next_bucket.new.self c.in_ok-bucket.field-0 c.in-Some.bucket c.in-Some.ids c.in-Some.is c.in_ok-bucket.ensures.drawn)
-    c.write_at-in-rounds.new.column c.write_at.new.column c.as_slice.result.now c.as_slice-in-rounds.result.now c.in_ok-seat.seat c.lower_reached.new.buckets c.as_slice.ensures.value c.as_slice-in-rounds.ensures.value
-    (subst (λ k. AreWritten c.as_slice.result.now k c.rounds.level c.write_at.new.column) (ap length c.drawn.ensures) c.write_at.ensures) c.write_at-in-rounds.ensures c.in_ok-seat.ensures
+    c.in_ok-seat.seat c.lower_reached.new.buckets c.in_ok-seat.ensures
 
 pub rounds-preserved : goal.rounds-preserved
 rounds-preserved g c =
