@@ -1,20 +1,14 @@
 -- Moves of vertices that are counted, and groups of moves put together.
-use Rattle.std.proofs.Common.{◌≡◌, ◌≢◌, ℕ, suc, ◌+◌, ◌-◌, ◌*◌, ◌<◌, ◌≤◌, max, List, [], ◌∷◌, ◌++◌, length, drop, refl, ap, sym, ◌∙◌, subst, arith, inl, inr, Some, slice_get, Vec, Global}
+use Rattle.std.proofs.Common.{◌≡◌, ◌≢◌, ℕ, ◌-◌, ◌<◌, max, List, [], ◌∷◌, ◌++◌, length, refl, ap, sym, ◌∙◌, subst, arith, inl, inr}
 use Rattle.std.specs.Prelude.{slice_index}
 use Rattle.std.specs.List.{flat_map, All}
 use Rattle.std.proofs.lemmas.Bool.{cases_eq, cond-true, cond-false, eq-eqb, ne_eqb}
-use Rattle.std.proofs.lemmas.Grind.{flat_map-append}
-use Rattle.std.proofs.lemmas.List.{drop_all}
 use Rattle.std.proofs.lemmas.List.Elements.{All-nil, All-cons, All-head, All-tail}
 use Rattle.jul_base.specs.declared.limits.TheConstants.{NONE}
-use Rattle.jul_base.specs.Logs.{Log}
 use Rattle.jul_bucket.specs.declared.orders.Order.{Order}
 use Rattle.jul_bucket.specs.declared.orders.Order.TheVariants.{Increasing}
 use Rattle.jul_bucket.specs.Orders.{IsNotBehind}
 use Rattle.jul_bucket.specs.States.{State}
-use Rattle.jul_pool.specs.Runs.{EachRunOnce}
-use Rattle.jul_subset.specs.Chunks.{chunk_of}
-use Rattle.jul_subset.proofs.ChunkLaws.{chunk_then, given_at}
 use Rattle.jul_core.specs.PeelMoves.{move_of, moves_of, IsAhead, CanLower}
 use Rattle.jul_core.proofs.MoveLaws.{moves-none, moves-some}
 
