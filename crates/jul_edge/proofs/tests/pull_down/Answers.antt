@@ -1,5 +1,4 @@
-use Rattle.std.proofs.Common.{◌<◌, ◌≤◌, refl, arith, length, true}
-use Rattle.std.specs.Prelude.{slice_index}
+use Rattle.std.proofs.Common.{◌<◌, refl, arith, true}
 use Rattle.jul_base.specs.Graph.{vertices}
 use Rattle.jul_edge.specs.declared.functions.Direction.TheVariants.{Pull}
 use Rattle.jul_edge.proofs.ApplyingLaws.{wanted_target}
