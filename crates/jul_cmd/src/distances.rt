@@ -26,13 +26,12 @@ pub fn find_distances<R: Threads + Sync, G: Gate>(
 {
     let sources = [source];
     check_sources(&sources, rows.n())?;
-    let in_rows = rows.flip()?;
     let column = least_distances(
         resources.rt,
         resources.alloc,
         &resources.team,
         rows,
-        &in_rows,
+        None,
         &sources,
         u64::from(delta).max(1),
         OPEN,

@@ -1,23 +1,18 @@
 -- Where the moves of vertices lead, and groups of moves put together.
-use Rattle.std.proofs.Common.{◌≡◌, ◌≢◌, ◌⊎◌, ℕ, zero, suc, ◌+◌, ◌*◌, ◌<◌, ◌≤◌, ◌==◌, ◌||◌, cond, List, [], ◌∷◌, ◌++◌, length, get_or, set, drop, refl, ap, sym, ◌∙◌, subst, arith, inl, inr, Bool, true, false, Some, slice_get, Vec, Global, length-append, get_or-set_same}
+use Rattle.std.proofs.Common.{◌≡◌, ◌≢◌, ◌⊎◌, ℕ, zero, suc, ◌<◌, ◌≤◌, ◌==◌, ◌||◌, cond, List, [], ◌∷◌, length, get_or, set, refl, ap, sym, ◌∙◌, subst, arith, inl, inr, Bool, true, false, Vec, Global, length-append, get_or-set_same}
 use Rattle.std.specs.Prelude.{Contains, slice_index, Result, IfOk}
 use Rattle.std.specs.declared.alloc.AllocError.{AllocError}
-use Rattle.std.specs.List.{flat_map, All}
+use Rattle.std.specs.List.{All}
 use Rattle.std.proofs.lemmas.Bool.{eqb-true}
-use Rattle.std.proofs.lemmas.Grind.{flat_map-append}
-use Rattle.std.proofs.lemmas.List.{drop_all, length-set}
+use Rattle.std.proofs.lemmas.List.{length-set}
 use Rattle.std.proofs.lemmas.List.Elements.{All-from_get_or, Contains-get_or, Contains-append_left, Contains-append_right, Contains-append_cases}
 use Rattle.jul_base.specs.declared.limits.TheConstants.{NONE}
-use Rattle.jul_base.specs.Logs.{Log}
 use Rattle.jul_base.proofs.SetLaws.{Contains-cons_cases}
 use Rattle.jul_bucket.specs.declared.draws.Dest.{Dest}
 use Rattle.jul_bucket.specs.declared.draws.Dest.TheVariants.{Null, Open, Overflow}
 use Rattle.jul_bucket.specs.Places.{set_places}
 use Rattle.jul_bucket.specs.States.{State, dest_of, is_open, offset}
 use Rattle.jul_bucket.proofs.IdLaws.{set_places-cases}
-use Rattle.jul_pool.specs.Runs.{EachRunOnce}
-use Rattle.jul_subset.specs.Chunks.{chunk_of}
-use Rattle.jul_subset.proofs.ChunkLaws.{chunk_then, given_at}
 use Rattle.jul_dist.specs.Moving.{bucket_of, move_to, move_of, moves_of}
 
 -- a result of which this is said, where the list is another one

@@ -3,7 +3,7 @@ use Rattle.std.proofs.Common.{◌≡◌, ◌≢◌, ℕ, ◌+◌, ◌/◌, ◌<�
 use Rattle.std.specs.Prelude.{Contains}
 use Rattle.std.specs.List.{All}
 use Rattle.std.proofs.lemmas.Bool.{cases_eq}
-use Rattle.std.proofs.lemmas.List.{length-set, take_more, take_all, get_or-replicate, get_or-set_same, get_or-set_other}
+use Rattle.std.proofs.lemmas.List.{length-replicate, length-set, take_more, take_all, get_or-replicate, get_or-set_same, get_or-set_other}
 use Rattle.std.proofs.lemmas.List.Elements.{All-nil, All-contains, Contains-append_left, Contains-push, Contains-push_cases}
 use Rattle.jul_base.specs.declared.graphs.RawGraph.{RawGraph}
 use Rattle.jul_base.specs.declared.limits.TheConstants.{NONE}
@@ -15,7 +15,7 @@ use Rattle.jul_base.specs.Logs.{Home, Entry}
 use Rattle.jul_base.proofs.SourceLaws.{length-first, first_source, first_some, first_is}
 use Rattle.jul_base.proofs.DistanceListLaws.{distance_list-is}
 use Rattle.jul_base.proofs.CappedLaws.{first_floors}
-use Rattle.jul_words.specs.Seats.{Seat, AreFloorsOf, rooted}
+use Rattle.jul_words.specs.Seats.{Seat, AreFloorsOf, rooted, zeros}
 use Rattle.jul_edge.specs.EdgeMaps.{CanStamp}
 use Rattle.jul_bucket.specs.declared.orders.Order.TheVariants.{Increasing}
 use Rattle.jul_bucket.specs.declared.draws.Draw.{Draw}
@@ -143,3 +143,13 @@ first_above g lawful sources sources_in n start is n_is =
       as_many = (distance_list-is g lawful sources sources_in).size ∙ sym size;
       below = λ v lt. omega (arith, first_floors g lawful sources sources_in v (omega (arith, lt, size)), ap (λ l. get_or l v 0) first);
     }
+
+-- the root of a new table of a word for each vertex may stamp
+pub may_stamp : (n count : ℕ) (table : List ℕ) (s : Seat) → count ≡ n → s ≡ rooted (zeros table count) → CanStamp n table 1 s
+may_stamp n count table s is root = record {
+  of_table = ap (λ (x : Seat). x.home.table) root;
+  words = ap (λ (x : Seat). length x.home.starts) root ∙ length-replicate {A = ℕ} count 0 ∙ is;
+  alone = (ap (λ (x : Seat). x.root) root, ap (λ (x : Seat). x.out) root);
+  some = omega arith;
+  above = subst (All (λ (e : Entry). e.number < 1)) (sym (ap (λ (x : Seat). x.log) root)) (All-nil (λ (e : Entry). e.number < 1));
+}

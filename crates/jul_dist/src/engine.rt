@@ -1,5 +1,5 @@
 //! Least distances from a list of sources.
-ghost use Rattle.std.specs.Prelude.{◌≡◌, ◌≢◌, ℕ, ◌/◌, ◌<◌, ◌≤◌, [], length, All, IfOk, slice_index};
+ghost use Rattle.std.specs.Prelude.{◌≡◌, ◌≢◌, ℕ, ◌/◌, ◌<◌, ◌≤◌, [], length, All, IfOk, IfSome, slice_index};
 ghost use Rattle.jul_base.specs.declared.limits.TheConstants.{NONE};
 ghost use Rattle.jul_base.specs.Graph.{vertices};
 ghost use Rattle.jul_base.specs.InRows.{IsFlip};
@@ -88,7 +88,7 @@ pub fn distances<R: Threads + Sync, G: Gate>(
         alloc,
         team,
         rows,
-        in_rows,
+        Some(in_rows),
         sources,
         delta,
         words,
@@ -107,19 +107,20 @@ pub fn distances<R: Threads + Sync, G: Gate>(
     })
 }
 
-/// The same with tables and buckets of its own, of which `open_count` are open, from 1 to 65,536. Memory that runs out is the
-/// only refusal.
+/// The same with tables and buckets of its own, of which `open_count` are open, from 1 to 65,536. Without in-rows each round
+/// pushes: to make them costs more than the few pulls save where the graph is searched once. Memory that runs out is the only
+/// refusal.
 pub fn least_distances<R: Threads + Sync, G: Gate>(
     rt: &R,
     alloc: Global,
     team: &Team<'_, G>,
     rows: &Rows,
-    in_rows: &InRows,
+    in_rows: Option<&InRows>,
     sources: &[u32],
     delta: u64,
     open_count: u32,
 ) -> Result<Column, AllocError>
-    requires flip { IsFlip rows.now in_rows.now }
+    requires flip { IfSome in_rows (λ r. IsFlip rows.now r.now) }
     requires sources { All (λ s. s < vertices rows.now) sources.now }
     requires delta { 1 ≤ delta }
     requires open_some { 0 < open_count }
@@ -132,8 +133,8 @@ pub fn least_distances<R: Threads + Sync, G: Gate>(
     let (words, seat) = MinWords::open(alloc, start.as_slice(), &floors)?;
     let (stamps, stamp_seat) = StampWords::open(alloc, rows.n())?;
     let mut buckets = Buckets::make(alloc, Order::Increasing, open_count, start.as_slice())?;
-    drop(start);
-    let out = distances(
+    let mut values = start;
+    search(
         rt,
         alloc,
         team,
@@ -145,7 +146,8 @@ pub fn least_distances<R: Threads + Sync, G: Gate>(
         seat,
         &stamps,
         stamp_seat,
+        values.as_mut_slice(),
         &mut buckets,
     )?;
-    Ok(out.dist)
+    Ok(Column::from_vec(values))
 }

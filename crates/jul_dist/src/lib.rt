@@ -15,6 +15,7 @@ mod rounds;
 mod searching;
 mod settling;
 mod starting;
+mod walking;
 
 pub use engine::{DistOut, distances, least_distances};
 pub use floors::DistanceFloors;

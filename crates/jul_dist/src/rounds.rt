@@ -1,5 +1,5 @@
 //! One round of relaxations.
-ghost use Rattle.std.specs.Prelude.{◌≡◌, ℕ, ◌<◌, ◌≤◌, length, All, IfOk, slice_index};
+ghost use Rattle.std.specs.Prelude.{◌≡◌, ℕ, ◌<◌, ◌≤◌, length, All, IfOk, IfSome, slice_index};
 ghost use Rattle.jul_base.specs.Graph.{vertices};
 ghost use Rattle.jul_base.specs.InRows.{IsFlip};
 ghost use Rattle.jul_words.specs.Seats.{IsSeatOf, IsAlone};
@@ -7,17 +7,15 @@ ghost use Rattle.jul_edge.specs.EdgeMaps.{CanStamp, HasStamped};
 ghost use Rattle.jul_dist.specs.Relaxing.{HasRelaxed, AreAboveFloors};
 
 use crate::relaxing::Relax;
+use crate::walking::walk;
 use jul_base::Gate;
-use jul_edge::{Direction, edge_map_with_threshold};
+use jul_edge::Direction;
 use jul_pool::Team;
 use jul_rows::{InRows, Rows};
 use jul_subset::VertexSubset;
 use jul_words::{MinHand, MinSeat, MinWords, StampSeat, StampWords};
 use std::alloc::{AllocError, Global};
 use std::thread::Threads;
-
-/// A pull is made where members and places are more than one in so many of all places.
-const SHARE_FOR_PULL: u32 = 2;
 
 /// What a round gives back.
 #[derive(Drop)]
@@ -42,7 +40,7 @@ pub(crate) fn relax_round<R: Threads + Sync, G: Gate>(
     alloc: Global,
     team: &Team<'_, G>,
     rows: &Rows,
-    in_rows: &InRows,
+    in_rows: Option<&InRows>,
     from: &VertexSubset,
     reach: u64,
     values: &[u64],
@@ -55,7 +53,7 @@ pub(crate) fn relax_round<R: Threads + Sync, G: Gate>(
 ) -> Result<RoundOut, AllocError>
     requires some { 0 < vertices rows.now }
     requires n { from.now.n ≡ vertices rows.now }
-    requires flip { IsFlip rows.now in_rows.now }
+    requires flip { IfSome in_rows (λ r. IsFlip rows.now r.now) }
     requires values { length values.now ≡ vertices rows.now }
     requires least { All (λ u. least ≤ slice_index values.now u) from.now.members }
     requires table { IsSeatOf words.now seat }
@@ -76,11 +74,8 @@ pub(crate) fn relax_round<R: Threads + Sync, G: Gate>(
     };
     let hand = MinHand { words, seat };
     let team = team.for_work(reach);
-    // A pull that can't end early costs each place that leads to a wanted target: it is rarely the lesser work.
-    let threshold = u64::from(rows.m() / SHARE_FOR_PULL);
-    let out = edge_map_with_threshold(
-        rt, alloc, &team, rows, in_rows, from, reach, threshold, &f, hand, stamps, stamp_seat,
-        round,
+    let out = walk(
+        rt, alloc, &team, rows, in_rows, from, reach, &f, hand, stamps, stamp_seat, round,
     )?;
     let MinHand { words: _, mut seat } = out.token;
     // By this step the root learns what the rule says of its log, now that none is out.

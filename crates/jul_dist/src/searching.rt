@@ -1,5 +1,5 @@
 //! Least distances, bucket after bucket.
-ghost use Rattle.std.specs.Prelude.{◌≡◌, ◌≢◌, ℕ, ◌+◌, ◌*◌, ◌/◌, ◌<◌, ◌≤◌, [], length, All, IfOk, slice_index};
+ghost use Rattle.std.specs.Prelude.{◌≡◌, ◌≢◌, ℕ, ◌+◌, ◌*◌, ◌/◌, ◌<◌, ◌≤◌, [], length, All, IfOk, IfSome, slice_index};
 ghost use Rattle.jul_base.specs.Graph.{vertices, IsLawful};
 ghost use Rattle.jul_base.specs.InRows.{IsFlip};
 ghost use Rattle.jul_words.specs.Seats.{IsSeatOf, IsAlone};
@@ -32,7 +32,7 @@ pub(crate) fn search<R: Threads + Sync, G: Gate>(
     alloc: Global,
     team: &Team<'_, G>,
     rows: &Rows,
-    in_rows: &InRows,
+    in_rows: Option<&InRows>,
     sources: &[u32],
     delta: u64,
     words: &MinWords,
@@ -42,7 +42,7 @@ pub(crate) fn search<R: Threads + Sync, G: Gate>(
     values: &mut [u64],
     buckets: &mut Buckets,
 ) -> Result<Seats, AllocError>
-    requires flip { IsFlip rows.now in_rows.now }
+    requires flip { IfSome in_rows (λ r. IsFlip rows.now r.now) }
     requires sources { All (λ s. s < vertices rows.now) sources.now }
     requires delta { 1 ≤ delta }
     requires searching { IsSearching rows.now sources.now delta words.now stamps.now seat.home stamp_seat.home values.old seat stamp_seat buckets.old }

@@ -61,7 +61,10 @@ fn from<R: Threads + Sync + Abort, G: Gate>(
         gate,
     };
     let in_rows = rows.flip()?;
-    Ok(least_distances(rt, alloc, &team, rows, &in_rows, sources, delta, 2)?)
+    let pushed = least_distances(rt, alloc, &team, rows, None, sources, delta, 2)?;
+    let found = least_distances(rt, alloc, &team, rows, Some(&in_rows), sources, delta, 2)?;
+    assert_eq!(rt; pushed.as_slice(), found.as_slice());
+    Ok(found)
 }
 
 #[test]

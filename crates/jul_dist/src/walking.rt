@@ -1,0 +1,65 @@
+//! From which end a round walks the places of its members.
+ghost use Rattle.std.specs.Prelude.{◌≡◌, ℕ, ◌<◌, ◌≤◌, true, IfOk, IfSome};
+ghost use Rattle.jul_base.specs.Graph.{vertices};
+ghost use Rattle.jul_base.specs.InRows.{IsFlip};
+ghost use Rattle.jul_edge.specs.declared.functions.Direction.{Direction};
+ghost use Rattle.jul_edge.specs.Edges.{Application, IsWanted};
+ghost use Rattle.jul_edge.specs.EdgeMaps.{HasMapped, CanStamp, HasStamped};
+
+use jul_base::{Gate, Share};
+use jul_edge::{Direction, EdgeFn, EdgeOut, edge_map_with_threshold, edge_push};
+use jul_pool::Team;
+use jul_rows::{InRows, Rows};
+use jul_subset::VertexSubset;
+use jul_words::{StampSeat, StampWords};
+use std::alloc::{AllocError, Global};
+use std::thread::Threads;
+
+/// A pull is made where members and places are more than one in so many of all places.
+const SHARE_FOR_PULL: u32 = 2;
+
+/// Applies `f` once to each place from a member of `from` to a target that `f` wants: by pull where there are in-rows and
+/// `reach`, the members and their places, is more than half of all places, else by push.
+///
+/// A pull that can't end early costs each place that leads to a wanted target: it is rarely the lesser work. After an error
+/// the tokens are gone.
+pub(crate) fn walk<R: Threads + Sync, F: EdgeFn, G: Gate>(
+    rt: &R,
+    alloc: Global,
+    team: &Team<'_, G>,
+    rows: &Rows,
+    in_rows: Option<&InRows>,
+    from: &VertexSubset,
+    reach: u64,
+    f: &F,
+    token: F::Token,
+    stamps: &StampWords,
+    stamp_seat: StampSeat,
+    round: u64,
+) -> Result<EdgeOut<F::Token>, AllocError>
+    requires n { from.now.n ≡ vertices rows.now }
+    requires flip { IfSome in_rows (λ r. IsFlip rows.now r.now) }
+    requires root { F.Token.is_root token ≡ true }
+    requires none_out { F.Token.out token ≡ 0 }
+    requires stamps { CanStamp (vertices rows.now) stamps.now round stamp_seat }
+    requires want { (v : ℕ) → v < vertices rows.now → F.can_want f.now v }
+    requires apply { (by : Direction) → (a : Application) →
+        IsWanted by rows.now from.now.members (F.wanted f.now) a → F.can_apply f.now a (F.Token.home token) }
+
+    ensures made { IfOk result (λ r. HasMapped F.Token.log F.Token.home F.Token.is_root F.Token.out
+        r.direction rows.now from.now.members (F.wanted f.now) (F.gives f.now) token r.token r.subset) }
+    ensures stamped { IfOk result (λ r. HasStamped r.direction round stamp_seat r.stamp_seat) }
+{
+    match in_rows {
+        None => edge_push(
+            rt, alloc, team, rows, from, f, token, stamps, stamp_seat, round,
+        ),
+        Some(in_rows) => {
+            let threshold = u64::from(rows.m() / SHARE_FOR_PULL);
+            edge_map_with_threshold(
+                rt, alloc, team, rows, in_rows, from, reach, threshold, f, token, stamps,
+                stamp_seat, round,
+            )
+        }
+    }
+}
