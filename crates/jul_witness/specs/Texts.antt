@@ -10,6 +10,8 @@ use Rattle.jul_text.specs.Lines.{line_of}
 use Rattle.jul_witness.specs.Forms.{word_of}
 use Rattle.jul_witness.specs.declared.forms.Form.{Form}
 use Rattle.jul_witness.specs.declared.forms.Form.TheVariants as forms
+use Rattle.jul_witness.specs.declared.witnesses.Witness.{Witness}
+use Rattle.jul_witness.specs.declared.witnesses.Witness.TheVariants as witnesses
 
 -- a number without leading zeros, or a dash where there is none
 abbrev pub value_text : ℕ → List ℕ
@@ -52,3 +54,9 @@ distances_text d = result_text forms.Distances (length d.dist) (d.dist ∷ d.hop
 
 unfoldable pub cover_text : Cover → List ℕ
 cover_text c = result_text forms.Cover (length c.round) (c.round ∷ c.by ∷ [])
+
+-- the text of a result, whichever it is
+abbrev pub witness_text : Witness → List ℕ
+witness_text (witnesses.Cores c) = cores_text c
+witness_text (witnesses.Distances d) = distances_text d
+witness_text (witnesses.Cover c) = cover_text c
