@@ -2,7 +2,7 @@
 //!
 //! `distances` is delta-stepping (Meyer, Sanders, J. Algorithms 2003), and wBFS where `delta` is 1 (Dhulipala, Blelloch,
 //! Shun, SPAA 2017). Vertices wait in the bucket of their tentative distance divided by `delta`. A round draws the first
-//! bucket, relaxes the places of its vertices (`rounds`, `walking`), takes over what the words have become (`settling`) and moves the
+//! bucket, relaxes the places of its vertices (`rounds`), takes over what the words have become (`settling`) and moves the
 //! vertices that were lowered (`moving`).
 #![tactic(auto)]
 
@@ -15,7 +15,6 @@ mod rounds;
 mod searching;
 mod settling;
 mod starting;
-mod walking;
 
 pub use engine::{DistOut, distances, least_distances};
 pub use floors::DistanceFloors;

@@ -7,9 +7,8 @@ ghost use Rattle.jul_edge.specs.EdgeMaps.{CanStamp, HasStamped};
 ghost use Rattle.jul_dist.specs.Relaxing.{HasRelaxed, AreAboveFloors};
 
 use crate::relaxing::Relax;
-use crate::walking::walk;
 use jul_base::Gate;
-use jul_edge::Direction;
+use jul_edge::{Direction, edge_map_by_reach};
 use jul_pool::Team;
 use jul_rows::{InRows, Rows};
 use jul_subset::VertexSubset;
@@ -74,7 +73,7 @@ pub(crate) fn relax_round<R: Threads + Sync, G: Gate>(
     };
     let hand = MinHand { words, seat };
     let team = team.for_work(reach);
-    let out = walk(
+    let out = edge_map_by_reach(
         rt, alloc, &team, rows, in_rows, from, reach, &f, hand, stamps, stamp_seat, round,
     )?;
     let MinHand { words: _, mut seat } = out.token;

@@ -2,7 +2,7 @@
 //!
 //! Implement `EdgeFn`, and hand it to `edge_map` with a subset. `edge_push` walks the rows of the members, `edge_pull`
 //! the in-rows of the wanted targets, and `edge_map` chooses between them by the size of the work. `edge_map_with_threshold`
-//! leaves to the caller how much work is for a push.
+//! leaves to the caller how much work is for a push, and `edge_map_by_reach` pushes where there are no in-rows.
 #![tactic(auto)]
 
 mod functions;
@@ -10,6 +10,7 @@ mod maps;
 mod pulling;
 mod pulls;
 mod pushes;
+mod reaching;
 mod switching;
 mod thresholds;
 
@@ -17,6 +18,7 @@ pub use functions::{Direction, EdgeFn};
 pub use maps::{EdgeOut, PullOut};
 pub use pulls::edge_pull;
 pub use pushes::edge_push;
+pub use reaching::edge_map_by_reach;
 pub use switching::edge_map;
 pub use thresholds::edge_map_with_threshold;
 

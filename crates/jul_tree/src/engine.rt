@@ -1,5 +1,5 @@
 //! Hops and parents from a list of sources.
-ghost use Rattle.std.specs.Prelude.{◌≡◌, ◌≢◌, ℕ, ◌<◌, Contains, IfOk, replicate, slice_index};
+ghost use Rattle.std.specs.Prelude.{◌≡◌, ◌≢◌, ℕ, ◌<◌, Contains, IfOk, IfSome, replicate, slice_index};
 ghost use Rattle.jul_base.specs.declared.limits.TheConstants.{NONE};
 ghost use Rattle.jul_base.specs.Graph.{vertices};
 ghost use Rattle.jul_base.specs.InRows.{IsFlip};
@@ -34,23 +34,13 @@ pub struct TreeOut {
     pub stamp_seat: StampSeat,
 }
 
-/// Hops and parent of each vertex, by rounds over tight places.
-///
-/// The hops of a vertex are the least number of places of a walk of least sum from a source to it. Its parent is the least
-/// vertex from which the last place of such a walk leads. A source has 0 and `NONE`, and a vertex that isn't reached has
-/// `NONE` in both.
-///
-/// `sources` is an increasing list, and `dist` the least distances from it. The key words start at `NONE`, without floors,
-/// and nothing was logged in either table. At the end the key word of each other vertex that was reached is
-/// `hops * 2^32 + parent`, and the stamps may go on above `n`.
-///
-/// Memory that runs out is the only refusal. Then the seats are gone, and the tables aren't used again.
-pub fn tree<R: Threads + Sync, G: Gate>(
+// The tree, with tables that are handed in and with in-rows or without.
+fn grow_tree<R: Threads + Sync, G: Gate>(
     rt: &R,
     alloc: Global,
     team: &Team<'_, G>,
     rows: &Rows,
-    in_rows: &InRows,
+    in_rows: Option<&InRows>,
     sources: &[u32],
     dist: &[u64],
     keys: &MinWords,
@@ -58,7 +48,7 @@ pub fn tree<R: Threads + Sync, G: Gate>(
     stamps: &StampWords,
     stamp_seat: StampSeat,
 ) -> Result<TreeOut, AllocError>
-    requires flip { IsFlip rows.now in_rows.now }
+    requires flip { IfSome in_rows (λ r. IsFlip rows.now r.now) }
     requires sources { AreSources (vertices rows.now) sources.now }
     requires dist { AreDistances rows.now sources.now dist.now }
     requires keys { key_seat ≡ rooted (home keys.now
@@ -102,8 +92,18 @@ pub fn tree<R: Threads + Sync, G: Gate>(
     })
 }
 
-/// The same with tables of its own: the hops and the parents of the vertices.
-pub fn hops_and_parents<R: Threads + Sync, G: Gate>(
+/// Hops and parent of each vertex, by rounds over tight places.
+///
+/// The hops of a vertex are the least number of places of a walk of least sum from a source to it. Its parent is the least
+/// vertex from which the last place of such a walk leads. A source has 0 and `NONE`, and a vertex that isn't reached has
+/// `NONE` in both.
+///
+/// `sources` is an increasing list, and `dist` the least distances from it. The key words start at `NONE`, without floors,
+/// and nothing was logged in either table. At the end the key word of each other vertex that was reached is
+/// `hops * 2^32 + parent`, and the stamps may go on above `n`.
+///
+/// Memory that runs out is the only refusal. Then the seats are gone, and the tables aren't used again.
+pub fn tree<R: Threads + Sync, G: Gate>(
     rt: &R,
     alloc: Global,
     team: &Team<'_, G>,
@@ -111,8 +111,55 @@ pub fn hops_and_parents<R: Threads + Sync, G: Gate>(
     in_rows: &InRows,
     sources: &[u32],
     dist: &[u64],
-) -> Result<(Column, Column), AllocError>
+    keys: &MinWords,
+    key_seat: MinSeat,
+    stamps: &StampWords,
+    stamp_seat: StampSeat,
+) -> Result<TreeOut, AllocError>
     requires flip { IsFlip rows.now in_rows.now }
+    requires sources { AreSources (vertices rows.now) sources.now }
+    requires dist { AreDistances rows.now sources.now dist.now }
+    requires keys { key_seat ≡ rooted (home keys.now
+        (replicate (vertices rows.now) NONE) (replicate (vertices rows.now) 0)) }
+    requires stamps { CanStamp (vertices rows.now) stamps.now 1 stamp_seat }
+
+    ensures tree { IfOk result (λ r. AreTree rows.now sources.now dist.now r.hops r.parent) }
+
+    // The key word of each vertex that was reached and is no source.
+    ensures keys { IfOk result (λ r. (v : ℕ) → v < vertices rows.now → (Contains sources.now v → ⊥) → slice_index r.hops v ≢ NONE →
+        word_of r.key_seat v ≡ key (slice_index r.hops v) (slice_index r.parent v)) }
+    ensures key_seat { IfOk result (λ r. IsAlone r.key_seat × (r.key_seat.home ≡ key_seat.home)) }
+    ensures stamp_seat { IfOk result (λ r. IsAlone r.stamp_seat × (r.stamp_seat.home ≡ stamp_seat.home)) }
+    ensures stamps { IfOk result (λ r. (round : ℕ) → vertices rows.now < round →
+        CanStamp (vertices rows.now) stamps.now round r.stamp_seat) }
+{
+    grow_tree(
+        rt,
+        alloc,
+        team,
+        rows,
+        Some(in_rows),
+        sources,
+        dist,
+        keys,
+        key_seat,
+        stamps,
+        stamp_seat,
+    )
+}
+
+/// The same with tables of its own: the hops and the parents of the vertices. Without in-rows each round pushes: to make
+/// them costs more than the few pulls save. Memory that runs out is the only refusal.
+pub fn hops_and_parents<R: Threads + Sync, G: Gate>(
+    rt: &R,
+    alloc: Global,
+    team: &Team<'_, G>,
+    rows: &Rows,
+    in_rows: Option<&InRows>,
+    sources: &[u32],
+    dist: &[u64],
+) -> Result<(Column, Column), AllocError>
+    requires flip { IfSome in_rows (λ r. IsFlip rows.now r.now) }
     requires sources { AreSources (vertices rows.now) sources.now }
     requires dist { AreDistances rows.now sources.now dist.now }
 
@@ -122,7 +169,7 @@ pub fn hops_and_parents<R: Threads + Sync, G: Gate>(
     let floors = ZeroFloors { count: rows.n() };
     let (keys, key_seat) = MinWords::open(alloc, start.as_slice(), &floors)?;
     let (stamps, stamp_seat) = StampWords::open(alloc, rows.n())?;
-    let out = tree(
+    let out = grow_tree(
         rt, alloc, team, rows, in_rows, sources, dist, &keys, key_seat, &stamps, stamp_seat,
     )?;
     Ok((out.hops, out.parent))

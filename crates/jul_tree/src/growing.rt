@@ -1,5 +1,5 @@
 //! Round after round, till a round reaches no vertex.
-ghost use Rattle.std.specs.Prelude.{◌≡◌, ℕ, length, IfOk};
+ghost use Rattle.std.specs.Prelude.{◌≡◌, ℕ, length, IfOk, IfSome};
 ghost use Rattle.jul_base.specs.Graph.{vertices};
 ghost use Rattle.jul_base.specs.InRows.{IsFlip};
 ghost use Rattle.jul_base.specs.Sources.{AreSources};
@@ -31,7 +31,7 @@ pub(crate) fn grow<R: Threads + Sync, G: Gate>(
     alloc: Global,
     team: &Team<'_, G>,
     rows: &Rows,
-    in_rows: &InRows,
+    in_rows: Option<&InRows>,
     sources: &[u32],
     dist: &[u64],
     words: &MinWords,
@@ -41,7 +41,7 @@ pub(crate) fn grow<R: Threads + Sync, G: Gate>(
     first: Vec<u32>,
     hops: &mut [u64],
 ) -> Result<Grown, AllocError>
-    requires flip { IsFlip rows.now in_rows.now }
+    requires flip { IfSome in_rows (λ r. IsFlip rows.now r.now) }
     requires sources { AreSources (vertices rows.now) sources.now }
     requires dist { AreDistances rows.now sources.now dist.now }
     requires searching { IsSearching rows.now sources.now dist.now words.now stamps.now

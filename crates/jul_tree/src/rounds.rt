@@ -1,5 +1,5 @@
 //! One round over tight places.
-ghost use Rattle.std.specs.Prelude.{◌≡◌, ℕ, ◌<◌, ◌≤◌, length, IfOk};
+ghost use Rattle.std.specs.Prelude.{◌≡◌, ℕ, ◌<◌, ◌≤◌, length, IfOk, IfSome};
 ghost use Rattle.jul_base.specs.declared.limits.TheConstants.{MAX_N};
 ghost use Rattle.jul_base.specs.Graph.{vertices};
 ghost use Rattle.jul_base.specs.InRows.{IsFlip};
@@ -9,17 +9,13 @@ ghost use Rattle.jul_tree.specs.Hooking.{HasHooked};
 
 use crate::hooking::Hook;
 use jul_base::Gate;
-use jul_edge::{Direction, edge_map_with_threshold};
+use jul_edge::{Direction, edge_map_by_reach};
 use jul_pool::Team;
 use jul_rows::{InRows, Rows};
 use jul_subset::VertexSubset;
 use jul_words::{MinHand, MinSeat, MinWords, StampSeat, StampWords};
 use std::alloc::{AllocError, Global};
 use std::thread::Threads;
-
-/// A pull is made where members and places are more than one in so many of all places. It can't end early, since the least
-/// parent may come last.
-const SHARE_FOR_PULL: u32 = 2;
 
 /// What a round gives back.
 #[derive(Drop)]
@@ -37,14 +33,14 @@ pub(crate) struct RoundOut {
 /// Offers the target of each tight place from a member of `from` the key of `hop` and the member, where the target wasn't
 /// reached yet.
 ///
-/// By `reach`, the members and their places, it is chosen how many work and how the places are walked. Memory that runs out
-/// is the only refusal; then the seats are gone.
+/// By `reach`, the members and their places, it is chosen how many work and how the places are walked. A pull can't end early,
+/// since the least parent may come last. Memory that runs out is the only refusal; then the seats are gone.
 pub(crate) fn hook_round<R: Threads + Sync, G: Gate>(
     rt: &R,
     alloc: Global,
     team: &Team<'_, G>,
     rows: &Rows,
-    in_rows: &InRows,
+    in_rows: Option<&InRows>,
     from: &VertexSubset,
     reach: u64,
     dist: &[u64],
@@ -56,7 +52,7 @@ pub(crate) fn hook_round<R: Threads + Sync, G: Gate>(
     stamp_seat: StampSeat,
 ) -> Result<RoundOut, AllocError>
     requires n { from.now.n ≡ vertices rows.now }
-    requires flip { IsFlip rows.now in_rows.now }
+    requires flip { IfSome in_rows (λ r. IsFlip rows.now r.now) }
     requires dist { length dist.now ≡ vertices rows.now }
     requires hops { length hops.now ≡ vertices rows.now }
     requires few { hop ≤ MAX_N }
@@ -69,6 +65,7 @@ pub(crate) fn hook_round<R: Threads + Sync, G: Gate>(
     ensures hooked { IfOk result (λ r. HasHooked rows.now from.now.members dist.now hops.now hop seat r.seat r.hit) }
     ensures stamped { IfOk result (λ r. HasStamped r.direction hop stamp_seat r.stamp_seat) }
 {
+    prove!(from.n() == rows.n());
     let f = Hook {
         dist,
         hops,
@@ -77,9 +74,8 @@ pub(crate) fn hook_round<R: Threads + Sync, G: Gate>(
     };
     let hand = MinHand { words, seat };
     let team = team.for_work(reach);
-    let threshold = u64::from(rows.m() / SHARE_FOR_PULL);
-    let out = edge_map_with_threshold(
-        rt, alloc, &team, rows, in_rows, from, reach, threshold, &f, hand, stamps, stamp_seat, hop,
+    let out = edge_map_by_reach(
+        rt, alloc, &team, rows, in_rows, from, reach, &f, hand, stamps, stamp_seat, hop,
     )?;
     let MinHand { words: _, seat } = out.token;
     Ok(RoundOut {

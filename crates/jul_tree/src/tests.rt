@@ -75,8 +75,7 @@ fn drawn<R: Threads + Sync, G: Gate>(
         chunk: 1,
         gate,
     };
-    let in_rows = rows.flip()?;
-    Ok(hops_and_parents(rt, alloc, &team, rows, &in_rows, sources, dist)?)
+    Ok(hops_and_parents(rt, alloc, &team, rows, None, sources, dist)?)
 }
 
 /// Ends the test where 1, 2 or 7 workers find other hops or parents.

@@ -1,4 +1,4 @@
-//! From which end a round walks the places of its members.
+//! The choice between a push and a pull where in-rows may be missing.
 ghost use Rattle.std.specs.Prelude.{◌≡◌, ℕ, ◌<◌, ◌≤◌, true, IfOk, IfSome};
 ghost use Rattle.jul_base.specs.Graph.{vertices};
 ghost use Rattle.jul_base.specs.InRows.{IsFlip};
@@ -6,8 +6,11 @@ ghost use Rattle.jul_edge.specs.declared.functions.Direction.{Direction};
 ghost use Rattle.jul_edge.specs.Edges.{Application, IsWanted};
 ghost use Rattle.jul_edge.specs.EdgeMaps.{HasMapped, CanStamp, HasStamped};
 
+use crate::functions::{Direction, EdgeFn};
+use crate::maps::EdgeOut;
+use crate::pushes::edge_push;
+use crate::thresholds::edge_map_with_threshold;
 use jul_base::{Gate, Share};
-use jul_edge::{Direction, EdgeFn, EdgeOut, edge_map_with_threshold, edge_push};
 use jul_pool::Team;
 use jul_rows::{InRows, Rows};
 use jul_subset::VertexSubset;
@@ -23,7 +26,7 @@ const SHARE_FOR_PULL: u32 = 2;
 ///
 /// A pull that can't end early costs each place that leads to a wanted target: it is rarely the lesser work. After an error
 /// the tokens are gone.
-pub(crate) fn walk<R: Threads + Sync, F: EdgeFn, G: Gate>(
+pub fn edge_map_by_reach<R: Threads + Sync, F: EdgeFn, G: Gate>(
     rt: &R,
     alloc: Global,
     team: &Team<'_, G>,

@@ -2,7 +2,7 @@ use Rattle.std.proofs.Common.{◌∙◌, arith}
 use Rattle.jul_base.proofs.ListLaws.{written}
 use Rattle.jul_tree.proofs.StartLaws.{start_at}
 use Rattle.jul_tree.proofs.SearchLaws.{tree_at, key_at}
-use Rattle.jul_tree.proofs.engine.tree.Goals as goal
+use Rattle.jul_tree.proofs.engine.grow_tree.Goals as goal
 
 pub grow-requires-clause-searching : goal.grow-requires-clause-searching
 grow-requires-clause-searching g c κs within =
