@@ -4,3 +4,4 @@ pub mod TallyLaws
 pub mod BalanceLaws
 pub mod GatheringLaws
 pub mod VisitLaws
+pub mod MirrorLaws

@@ -9,6 +9,7 @@ mod cuts;
 mod distinct;
 mod flipping;
 mod in_rows;
+mod mirroring;
 mod out_rows;
 mod pushing;
 mod reaching;

@@ -101,7 +101,7 @@ impl Rows {
 
     /// The place after the last one of `v`.
     #[inline]
-    fn end_place(&self, v: u32) -> u32
+    pub(crate) fn end_place(&self, v: u32) -> u32
         requires { v < vertices self.now }
 
         ensures place { result ≡ row_end self.now v }

@@ -11,6 +11,7 @@ ghost use Rattle.jul_base.specs.InRows.{AreSources, in_places};
 ghost use Rattle.jul_base.specs.Symmetry.{IsSymmetric, IsFirstAsymmetricPlace};
 ghost use Rattle.jul_rows.specs.Balance.{IsTallyOf, IsBalancedRow, IsFirstOfRow, IsFirstExcess};
 
+use crate::mirroring::is_mirrored;
 use crate::out_rows::Rows;
 use crate::tally::Counts;
 use std::alloc::AllocError;
@@ -19,11 +20,15 @@ impl Rows {
     /// The first asymmetric place: the least one, from some `u` to some `w`, for which the row of `u` has
     /// more entries `w` than the row of `w` has entries `u`. None exactly where the graph is symmetric.
     ///
-    /// Takes the memory of `flip` and two numbers a vertex, and gives it back.
+    /// Takes the memory of a number a vertex and a place, in a graph that isn't symmetric that of `flip` and two numbers a vertex,
+    /// and gives it back.
     pub fn first_asymmetry(&self) -> Result<Option<u32>, AllocError>
         ensures first { IfOk result (λ found.
             MatchOption found (IsSymmetric self.now) (IsFirstAsymmetricPlace self.now)) }
     {
+        if is_mirrored(self)? {
+            return Ok(None);
+        }
         let in_rows = self.flip()?;
         let alloc = self.raw().targets.allocator();
         let mut to = Counts::new(alloc, self.n())?;
