@@ -22,3 +22,11 @@ pub mod ListLaws
 pub mod SmallGraphs
 pub mod PeelLaws
 pub mod RoundRows
+pub mod CountLaws
+pub mod PowerLaws
+pub mod FirstLaws
+pub mod CoverRoundLaws
+pub mod CoverFallLaws
+pub mod CoverEndLaws
+pub mod CoverColumnLaws
+pub mod CoverRows

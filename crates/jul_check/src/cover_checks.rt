@@ -1,6 +1,8 @@
 //! The check of a set cover.
 ghost use Rattle.std.specs.Prelude.{◌≡◌, ◌<◌, length, IfOk};
+ghost use Rattle.jul_base.specs.CoverRounds.{IsCover};
 ghost use Rattle.jul_base.specs.Graph.{vertices};
+ghost use Rattle.jul_base.specs.Sets.{sets_of};
 ghost use Rattle.jul_check.specs.CoverChecks.{is_element, is_in_its_set, fails_cover, cover_reasons};
 ghost use Rattle.jul_check.specs.CoverChecks.{cover_verdict, HoldsEveryElement};
 ghost use Rattle.jul_check.specs.Marks.{AreMarks};
@@ -15,14 +17,15 @@ use std::alloc::{AllocError, Global};
 
 /// Whether the columns are a set cover of the graph, or the least vertex that shows they are not.
 ///
-/// A yes implies that every element is in a set that was chosen. It doesn't say that few were. Memory that
-/// runs out is the only refusal. Takes memory for two marks a vertex.
+/// A yes implies that every element is in a set that was chosen. It doesn't say that few were. The columns of the
+/// rounds of the cover are accepted. Memory that runs out is the only refusal. Takes memory for two marks a vertex.
 pub fn check_cover(alloc: Global, rows: &Rows, c: &Cover) -> Result<Verdict, AllocError>
     requires round { length c.now.round ≡ vertices rows.now }
     requires by { length c.now.by ≡ vertices rows.now }
 
     ensures verdict { IfOk result (λ verdict. verdict ≡ cover_verdict rows.now c.now) }
     ensures sound { IfOk result (λ verdict. verdict ≡ Yes → HoldsEveryElement rows.now c.now.round) }
+    ensures accepts { IfOk result (λ verdict. IsCover (sets_of rows.now) c.now → verdict ≡ Yes) }
 {
     let test = CoverTest {
         rows,
