@@ -1,6 +1,7 @@
 pub mod CommandLaws
 pub mod CountingLaws
 pub mod QueryLaws
+pub mod WordRows
 pub mod WalkRules
 pub mod WalkRows
 pub mod WalkTurns

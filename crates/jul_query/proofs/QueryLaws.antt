@@ -1,12 +1,12 @@
 -- What the words ask for, step by step.
 use Rattle.std.proofs.Common.{◌≡◌, ◌∙◌, Bool, true, false, List, Option, Some, None, refl, sym, ap}
-use Rattle.std.specs.Option.{option_map, option_and_then, IfSome, IsSomeAnd}
+use Rattle.std.specs.Option.{option_map, option_and_then}
 use Rattle.clap.specs.Words.{Text}
 use Rattle.jul_query.specs.declared.command_line.CommandLine.{CommandLine}
 use Rattle.jul_query.specs.declared.queries.Query.{Query}
 use Rattle.jul_query.specs.Counting.{is_counted_twice}
 use Rattle.jul_query.specs.CommandLines.{split_by}
-use Rattle.jul_query.specs.Splitting.{Split, split}
+use Rattle.jul_query.specs.Splitting.{split}
 use Rattle.jul_query.specs.Asking.{IsAsked, asked_by}
 use Rattle.jul_query.specs.Queries.{Asked}
 use Rattle.jul_query.specs.Words.{asked, asked_split}

@@ -1,5 +1,5 @@
 -- How the work is to be done, as the words say it. No answer depends on it.
-use Rattle.std.specs.Prelude.{◌≡◌, ℕ, List, Option, Some, None}
+use Rattle.std.specs.Prelude.{◌≡◌, ℕ, List, Option, Some}
 use Rattle.std.specs.Option.{option_map, option_and_then, IsSomeAnd}
 use Rattle.clap.specs.Words.{Text}
 use Rattle.jul_query.specs.declared.queries.Settings.{Settings}

@@ -5,7 +5,7 @@ use Rattle.std.specs.Str.{bytes_eq}
 use Rattle.clap.specs.Words.{Text}
 use Rattle.jul_query.specs.declared.queries.Task.{Task}
 use Rattle.jul_query.specs.declared.queries.Task.TheVariants.{Wbfs, Delta, Kcore, Cover}
-use Rattle.jul_query.specs.Queries.{Input, graph_file, generated, Problem, distances, cores, cover, Form, whole, bare, summary, Work, solve, check, Asked}
+use Rattle.jul_query.specs.Queries.{Input, graph_file, generated, Problem, distances, cores, cover, Form, whole, bare, summary, solve, check, Asked}
 use Rattle.jul_query.specs.Numbers.{number_in, source_number, delta_number, n_number, pairs_number, seed_number}
 use Rattle.jul_query.specs.Settings.{settings_asked}
 use Rattle.jul_query.specs.Splitting.{Split, split}
