@@ -1,0 +1,10 @@
+pub mod Queries
+pub mod Splitting
+pub mod Command
+pub mod CommandLines
+pub mod Counting
+pub mod Numbers
+pub mod Settings
+pub mod Words
+pub mod Asking
+pub mod Ranges
