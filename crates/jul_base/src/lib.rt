@@ -20,6 +20,7 @@ mod results;
 mod shares;
 mod shelves;
 mod sinks;
+mod sums;
 mod text_blocks;
 mod writing;
 
@@ -36,6 +37,7 @@ pub use results::{Cores, Cover, Distances};
 pub use shares::{Free, Share};
 pub use shelves::Shelf;
 pub use sinks::{Failed, Sink};
+pub use sums::sums_before;
 pub use text_blocks::TextBlock;
 pub use writing::{write_u64, write_whole};
 
