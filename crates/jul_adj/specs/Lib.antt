@@ -5,3 +5,5 @@ pub mod Reading
 pub mod Rules
 pub mod Scanning
 pub mod Texts
+pub mod Spreading
+pub mod Generated

@@ -5,7 +5,9 @@
 //! and in a weighted file the weights. Start with `read_graph`; a file that is no graph has one `Fault`.
 #![tactic(auto)]
 
+mod drawing;
 mod faults;
+mod generating;
 mod numbers;
 mod offsets;
 mod reading;
@@ -13,7 +15,9 @@ mod rules;
 mod scanning;
 mod writing;
 
+pub use drawing::Entry;
 pub use faults::{Fault, FaultKind, ReadError};
+pub use generating::generate;
 pub use reading::read_graph;
 pub use writing::write_graph;
 

@@ -1,5 +1,5 @@
 //! Reading and writing with ample memory, on files whose answers were found by hand.
-use crate::{Fault, FaultKind, ReadError, read_graph, write_graph};
+use crate::{Fault, FaultKind, ReadError, generate, read_graph, write_graph};
 use jul_base::MemSink;
 use std::test::Fail;
 
@@ -62,5 +62,22 @@ fn a_failed_write_is_told(rt: HostRuntime) -> Result<(), Fail> {
     let graph = read_graph(rt.alloc(), b"AdjacencyGraph 0 0", 1000)?;
     assert!(rt; write_graph(&mut sink, &graph).is_err());
     assert_eq!(rt; sink.bytes.as_slice(), b"Adjacen".as_slice());
+    Ok(())
+}
+
+// The values were found by another implementation.
+#[test]
+fn a_seed_gives_its_graph(rt: HostRuntime) -> Result<(), Fail> {
+    let graph = generate(rt.alloc(), 4, 3, 7)?;
+    assert!(rt; graph.weighted);
+    assert_eq!(rt; graph.offsets.as_slice(), [0, 1, 1, 4].as_slice());
+    assert_eq!(rt; graph.targets.as_slice(), [3, 3, 2, 2, 0, 2].as_slice());
+    assert_eq!(rt; graph.weights.as_slice(), [47, 6, 86, 86, 47, 6].as_slice());
+    // Its vertices are in two parts of the rows.
+    let graph = generate(rt.alloc(), 5000, 6, 1)?;
+    let targets = [
+        3761, 2045, 1522, 784, 1950, 1737, 533, 3519, 2465, 235, 4739, 4555,
+    ];
+    assert_eq!(rt; graph.targets.as_slice(), targets.as_slice());
     Ok(())
 }
