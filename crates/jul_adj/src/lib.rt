@@ -2,7 +2,8 @@
 //!
 //! A file is in the text format AdjacencyGraph or WeightedAdjacencyGraph of the Problem Based
 //! Benchmark Suite (PBBS): a header word, the numbers of vertices and places, the offsets, the targets,
-//! and in a weighted file the weights. Start with `read_graph`; a file that is no graph has one `Fault`.
+//! and in a weighted file the weights. Start with `read_graph`; a file that is no graph has one `Fault`. `generate` makes a
+//! graph from a seed.
 #![tactic(auto)]
 
 mod drawing;
@@ -15,7 +16,6 @@ mod rules;
 mod scanning;
 mod writing;
 
-pub use drawing::Entry;
 pub use faults::{Fault, FaultKind, ReadError};
 pub use generating::generate;
 pub use reading::read_graph;
