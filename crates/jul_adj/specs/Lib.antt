@@ -2,6 +2,8 @@ pub mod Names
 pub mod Roles
 pub mod Faults
 pub mod Reading
+pub mod Readings
+pub mod Intakes
 pub mod Rules
-pub mod Scanning
+pub mod Storing
 pub mod Texts

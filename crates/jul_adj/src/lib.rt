@@ -6,11 +6,13 @@
 #![tactic(auto)]
 
 mod faults;
-mod numbers;
-mod offsets;
+mod intakes;
+mod lists;
 mod reading;
+mod readings;
 mod rules;
-mod scanning;
+mod sizes;
+mod storing;
 mod writing;
 
 pub use faults::{Fault, FaultKind, ReadError};
