@@ -4,6 +4,8 @@ pub mod Faults
 pub mod Reading
 pub mod Readings
 pub mod Intakes
+pub mod Marking
 pub mod Rules
 pub mod Storing
+pub mod Streaming
 pub mod Texts

@@ -8,15 +8,18 @@
 mod faults;
 mod intakes;
 mod lists;
+mod marking;
 mod reading;
 mod readings;
 mod rules;
 mod sizes;
 mod storing;
+mod streaming;
 mod writing;
 
-pub use faults::{Fault, FaultKind, ReadError};
+pub use faults::{Fault, FaultKind, ReadError, StreamError};
 pub use reading::read_graph;
+pub use streaming::{MAX_BLOCK, read_stream};
 pub use writing::write_graph;
 
 #[cfg(test)]

@@ -1,11 +1,10 @@
 //! The reading of a whole graph file that lies in memory.
-ghost use Rattle.std.specs.Prelude.{◌≡◌, ◌+◌, ◌<◌, ◌≤◌, ◌^◌, length, IfOk};
+ghost use Rattle.std.specs.Prelude.{◌≡◌, ◌<◌, ◌≤◌, length, IfOk};
 ghost use Rattle.jul_base.specs.Graph.{IsLawful};
-ghost use Rattle.jul_text.specs.Tokens.{tokens};
-ghost use Rattle.jul_adj.specs.Reading.{read_tokens, reads, Gives};
+ghost use Rattle.jul_adj.specs.Reading.{reads, Gives};
 
 use crate::faults::{Fault, FaultKind, ReadError};
-use crate::intakes::{Intake, PIECE};
+use crate::intakes::Intake;
 use jul_base::RawGraph;
 use std::alloc::Global;
 
@@ -26,20 +25,7 @@ pub fn read_graph(alloc: Global, bytes: &[u8], limit: u64) -> Result<RawGraph, R
             at: limit,
         }));
     }
-    read_pieces(alloc, bytes)
-}
-
-// Reads a file that is not too long, a piece at a time.
-fn read_pieces(alloc: Global, bytes: &[u8]) -> Result<RawGraph, ReadError>
-    ensures exact { Gives result (read_tokens (tokens bytes.now) (length bytes.now)) }
-    ensures lawful { IfOk result IsLawful }
-{
     let mut intake = Intake::new(alloc);
-    let mut at = 0;
-    while at < bytes.len() {
-        let count = PIECE.min(bytes.len() - at);
-        intake.feed(&bytes[at..at + count])?;
-        at += count;
-    }
+    intake.feed_pieces(bytes)?;
     intake.finish()
 }

@@ -8,6 +8,7 @@ ghost use Rattle.jul_adj.specs.Roles.{weighted_word, all_tokens};
 ghost use Rattle.jul_adj.specs.Rules.{bound_of, AreRuled};
 ghost use Rattle.jul_adj.specs.Reading.{read_tokens};
 ghost use Rattle.jul_adj.specs.Storing.{AreMarks};
+ghost use Rattle.jul_adj.specs.Marking.{joined};
 
 use crate::faults::{Fault, FaultKind};
 use crate::lists::Lists;
@@ -254,6 +255,17 @@ impl Reading {
                 return Ok(());
             }
             at += self.take_some(&marks[at..])?;
+        }
+        Ok(())
+    }
+
+    /// Takes the next tokens, by lists of marks, one behind the other.
+    pub(crate) fn take_all(&mut self, cuts: &[Vec<Mark>]) -> Result<(), AllocError>
+        ensures { (ws : List Word) (token : ℕ) → HasRead ws token self.old → AreMarks ws token (joined cuts.now)
+            → OnOk result (HasRead ws (token + length (joined cuts.now)) self.new) }
+    {
+        for cut in cuts {
+            self.take(cut)?;
         }
         Ok(())
     }

@@ -207,6 +207,14 @@ impl Feeder {
         }
     }
 
+    /// How many bytes were fed. Takes no memory.
+    #[inline]
+    pub fn count(&self) -> u64
+        ensures { result ≡ self.now.fed }
+    {
+        self.fed
+    }
+
     /// Appends the marks of the tokens that end in the next piece of the text.
     ///
     /// A token ends at the white byte behind it. After an error the feeder and the marks are as before.

@@ -20,7 +20,7 @@ said c b h =
           subst (λ r. HasRead (tokens b) (length (tokens b)) r) (sym w.reading-is)
           (last_taken b c.args.self.reading c.args.self.reading None (sym w.in_default.is ∙ last) h.read (λ ws token r are. none_taken c.args.self.reading ws token r))
     ] in
-    c.finish-2.ensures (tokens b) all ∙ ap (read_tokens (tokens b)) h.count
+    c.finish-2.ensures (tokens b) all ∙ ap (read_tokens (tokens b)) (c.count-len.ensures ∙ h.fed.count)
 
 pub returns-in-Ok : goal.returns-in-Ok
 returns-in-Ok c b h = sym (said ((goal.at.returns-in-Ok c).After-finish-2) b h) ∙ c.in-Ok.is
