@@ -1,7 +1,6 @@
 -- A file that comes in pieces.
-use Rattle.std.proofs.Common.{◌≡◌, ℕ, ◌+◌, ◌<◌, ◌≤◌, List, [], ◌∷◌, ◌++◌, map, ◌-◌, length, get_or, take, drop, refl, sym, ◌∙◌, subst, ap, arith, length-append, Option, Vec, Global}
+use Rattle.std.proofs.Common.{◌≡◌, ℕ, ◌+◌, ◌<◌, ◌≤◌, List, [], ◌∷◌, ◌++◌, map, ◌-◌, length, get_or, take, drop, sym, ◌∙◌, subst, ap, arith, length-append, Option, Vec, Global}
 use Rattle.std.specs.Prelude.{Result, Ok, Err, OnOk}
-use Rattle.std.specs.List.{flat_map}
 use Rattle.std.proofs.lemmas.Grind.{flat_map-append}
 use Rattle.std.proofs.Math.Seq.{take-add}
 use Rattle.std.proofs.lemmas.List.{length-map, get_or-map, get_or_append_left, get_or-append-add, append-nil, append_assoc, take_all, take_more, take-append-drop, length-drop, length-take-le, get_or-take}
@@ -12,7 +11,6 @@ use Rattle.jul_text.specs.declared.shapes.Mark.{Mark}
 use Rattle.jul_text.specs.Tokens.{Word, tokens}
 use Rattle.jul_text.specs.Scanning.{no_word, word_at}
 use Rattle.jul_text.specs.Shapes.{mark_at}
-use Rattle.jul_text.specs.declared.feeding.Feeder.{Feeder}
 use Rattle.jul_text.specs.Feeding.{IsFed, ended_marks, last_mark, as_list, GrowAlike}
 use Rattle.jul_text.proofs.FeederLaws.{all_of}
 use Rattle.jul_adj.specs.Storing.{AreMarks}

@@ -1,12 +1,11 @@
 -- Lists that grow by the values of further tokens.
-use Rattle.std.proofs.Common.{◌≡◌, ℕ, ◌+◌, ◌-◌, ◌<◌, ◌≤◌, min, List, [], ◌∷◌, ◌++◌, map, length, get_or, take, drop, refl, sym, ◌∙◌, subst, ap, arith, Vec, Global}
+use Rattle.std.proofs.Common.{◌≡◌, ℕ, ◌+◌, ◌-◌, ◌<◌, ◌≤◌, min, List, [], ◌∷◌, ◌++◌, map, length, get_or, take, drop, sym, ◌∙◌, ap, arith, Vec, Global}
 use Rattle.std.specs.Prelude.{Result, Ok, Err, IfOk}
 use Rattle.std.specs.Str.Parse.{digits_value}
 use Rattle.std.proofs.lemmas.List.{map-append, map_push, drop-drop, length-drop, take_more, get_or-drop}
 use Rattle.std.proofs.Math.Seq.{take-add}
 use Rattle.jul_text.specs.Tokens.{Word}
 use Rattle.jul_text.specs.Scanning.{no_word, word_at}
-use Rattle.jul_adj.specs.declared.rules.Rule.{Rule}
 use Rattle.jul_adj.specs.declared.lists.Lists.{Lists}
 use Rattle.jul_adj.specs.Roles.{value_at, first_target, first_weight, all_tokens}
 use Rattle.jul_adj.specs.Reading.{values_between}

@@ -1,5 +1,5 @@
 -- A text that is cut for several threads.
-use Rattle.std.proofs.Common.{◌≡◌, ℕ, ◌+◌, ◌<◌, ◌^◌, List, length, sym, ap, arith, Vec, Global}
+use Rattle.std.proofs.Common.{◌≡◌, ℕ, ◌+◌, ◌<◌, ◌^◌, List, length, arith, Vec, Global}
 use Rattle.std.specs.List.{flat_map}
 use Rattle.jul_base.specs.Logs.{Log}
 use Rattle.jul_text.specs.declared.shapes.Mark.{Mark}

@@ -1,29 +1,26 @@
 -- A reader before and after some tokens.
-use Rattle.std.proofs.Common.{◌≡◌, ℕ, zero, suc, ◌+◌, ◌-◌, ◌<◌, ◌≤◌, ◌^◌, ◌||◌, min, cond, Bool, true, false, lit<, List, [], ◌∷◌, length, get_or, take, drop, Option, Some, None, Result, Ok, Err, MatchOption, refl, sym, ◌∙◌, subst, ap, arith, inl, inr}
+use Rattle.std.proofs.Common.{◌≡◌, ℕ, zero, suc, ◌+◌, ◌-◌, ◌<◌, ◌≤◌, min, cond, Bool, lit<, List, [], ◌∷◌, length, get_or, take, drop, Option, Some, None, Result, Ok, Err, MatchOption, refl, sym, ◌∙◌, subst, ap, arith, inl, inr}
 use Rattle.std.specs.Str.{bytes_eq}
-use Rattle.std.proofs.lemmas.Bool.{cases_Bool, cases_lt, cond-true, cond-false, ne_eqb}
+use Rattle.std.proofs.lemmas.Bool.{cases_lt, cond-false, ne_eqb}
 use Rattle.jul_base.specs.declared.limits.TheConstants.{MAX_N, MAX_M}
-use Rattle.jul_text.specs.declared.numerals.Numeral.{Numeral}
-use Rattle.jul_text.specs.declared.numerals.Numeral.TheVariants.{Value, Above, Bad, Negative as NegativeNumber}
 use Rattle.jul_text.specs.Numerals.{numeral}
-use Rattle.jul_text.specs.declared.shapes.Shape.{Shape}
-use Rattle.jul_text.specs.declared.shapes.Shape.TheVariants.{Plain, Weighted, Digits, Huge, Negative, Other}
+use Rattle.jul_text.specs.declared.shapes.Shape.TheVariants.{Digits}
 use Rattle.jul_text.specs.declared.shapes.Mark.{Mark}
 use Rattle.jul_text.specs.Tokens.{Word}
 use Rattle.jul_text.specs.Scanning.{word_at, text_at}
-use Rattle.jul_text.specs.Shapes.{shape, number_shape, number_of, mark_at, plain_text, weighted_text}
+use Rattle.jul_text.specs.Shapes.{shape, number_of, mark_at}
 use Rattle.jul_base.specs.declared.graphs.RawGraph.{RawGraph}
 use Rattle.jul_adj.specs.declared.faults.Fault.{Fault}
 use Rattle.jul_adj.specs.declared.faults.FaultKind.{FaultKind}
-use Rattle.jul_adj.specs.declared.faults.FaultKind.TheVariants.{Header, TooManyVertices, TooManyEdges, FirstOffset, Truncated, Trailing}
+use Rattle.jul_adj.specs.declared.faults.FaultKind.TheVariants.{TooManyVertices, TooManyEdges, FirstOffset, Truncated, Trailing}
 use Rattle.jul_adj.specs.declared.rules.Rule.{Rule}
 use Rattle.jul_adj.specs.declared.rules.Rule.TheVariants.{Count, Offset, Target, Weight}
 use Rattle.jul_adj.specs.declared.sizes.Sizes.{Sizes}
 use Rattle.jul_adj.specs.declared.lists.Lists.{Lists}
 use Rattle.jul_adj.specs.declared.readings.Reading.{Reading}
-use Rattle.jul_adj.specs.Faults.{kind_at, fault_in, header_fault, number_fault, next_offset_fault, target_fault, weight_fault, offset_fault, NoneBefore}
-use Rattle.jul_adj.specs.Roles.{value_at, plain_word, weighted_word, is_weighted, said_vertices, said_places, first_target, first_weight, all_tokens}
-use Rattle.jul_adj.specs.Rules.{bound_of, rule_fault, behind, IsRuledBy, AreRuled}
+use Rattle.jul_adj.specs.Faults.{kind_at, fault_in, header_fault, next_offset_fault, target_fault}
+use Rattle.jul_adj.specs.Roles.{value_at, weighted_word, is_weighted, said_vertices, said_places, first_target, first_weight, all_tokens}
+use Rattle.jul_adj.specs.Rules.{rule_fault, IsRuledBy, AreRuled}
 use Rattle.jul_adj.specs.Reading.{values_between, graph_of, read_tokens}
 use Rattle.jul_adj.specs.Storing.{AreMarks}
 use Rattle.jul_adj.specs.Readings.{values_before, AreSizes, AreLists, IsClear, HasRead, IsPart}

@@ -1,8 +1,7 @@
 -- Numbers that are stored from marks.
-use Rattle.std.proofs.Common.{◌≡◌, ℕ, ◌+◌, ◌-◌, ◌<◌, ◌≤◌, ◌^◌, lit<, List, [], ◌∷◌, ◌++◌, map, length, get_or, take, drop, leb, None, Some, refl, sym, ◌∙◌, subst, ap, arith, inl, inr, append-nil, append_assoc}
+use Rattle.std.proofs.Common.{◌≡◌, ℕ, ◌+◌, ◌-◌, ◌<◌, ◌≤◌, ◌^◌, lit<, List, [], ◌∷◌, ◌++◌, map, length, get_or, take, drop, leb, None, refl, sym, ◌∙◌, subst, ap, arith, inl, inr, append-nil, append_assoc}
 use Rattle.std.specs.Str.Parse.{digits_value}
 use Rattle.std.proofs.lemmas.Bool.{cases_Bool, cases_lt, cond-true, cond-false, le-leb}
-use Rattle.jul_text.specs.declared.numerals.Numeral.{Numeral}
 use Rattle.jul_text.specs.declared.numerals.Numeral.TheVariants.{Value, Above, Bad, Negative as NegativeNumber}
 use Rattle.jul_text.specs.Numerals.{numeral, is_numeral, is_negative}
 use Rattle.jul_text.specs.declared.shapes.Shape.{Shape}
@@ -10,9 +9,8 @@ use Rattle.jul_text.specs.declared.shapes.Shape.TheVariants.{Plain, Weighted, Di
 use Rattle.jul_text.specs.declared.shapes.Mark.{Mark}
 use Rattle.jul_text.specs.Tokens.{Word}
 use Rattle.jul_text.specs.Scanning.{text_at}
-use Rattle.jul_text.specs.Shapes.{shape, number_of, mark_at}
+use Rattle.jul_text.specs.Shapes.{shape, number_of}
 use Rattle.jul_text.proofs.FeedLaws.{number_of_shape}
-use Rattle.jul_adj.specs.declared.faults.FaultKind.{FaultKind}
 use Rattle.jul_adj.specs.declared.rules.Rule.{Rule}
 use Rattle.jul_adj.specs.declared.rules.Rule.TheVariants.{Count, Offset, Target, Weight}
 use Rattle.jul_adj.specs.Faults.{kind_at}

@@ -1,5 +1,5 @@
 -- A reader that is given the marks of a file's tokens, some at a time.
-use Rattle.std.specs.Prelude.{◌≡◌, ℕ, ◌+◌, ◌<◌, ◌≤◌, min, List, length, Option, MatchOption, Err, if◌then◌else◌}
+use Rattle.std.specs.Prelude.{◌≡◌, ℕ, ◌<◌, ◌≤◌, min, List, length, MatchOption, Err}
 use Rattle.jul_text.specs.Tokens.{Word}
 use Rattle.jul_adj.specs.declared.rules.Rule.{Rule}
 use Rattle.jul_adj.specs.declared.rules.Rule.TheVariants.{Count, Offset, Target, Weight}

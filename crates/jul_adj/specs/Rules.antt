@@ -1,5 +1,5 @@
 -- The rule that a number is read by: up to which bound, and the fault of what is read.
-use Rattle.std.specs.Prelude.{◌≡◌, ℕ, ◌+◌, ◌-◌, ◌<◌, ◌≤◌, List, Option}
+use Rattle.std.specs.Prelude.{◌≡◌, ℕ, ◌+◌, ◌-◌, ◌<◌, List, Option}
 use Rattle.jul_base.specs.declared.limits.TheConstants.{MAX_N, MAX_W}
 use Rattle.jul_text.specs.Tokens.{Word}
 use Rattle.jul_text.specs.Numerals.{numeral}

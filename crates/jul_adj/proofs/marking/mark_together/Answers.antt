@@ -1,4 +1,4 @@
-use Rattle.std.proofs.Common.{◌≡◌, List, ℕ, sym, subst}
+use Rattle.std.proofs.Common.{sym, subst}
 use Rattle.jul_text.specs.Cuts.{AreCutPoints}
 use Rattle.jul_adj.proofs.MarkingLaws.{can_mark, all_marked}
 use Rattle.jul_adj.proofs.marking.mark_together.Goals as goal

@@ -1,6 +1,6 @@
-use Rattle.std.proofs.Common.{◌≡◌, [], length, sym, subst}
+use Rattle.std.proofs.Common.{[], length, sym, subst}
 use Rattle.jul_text.specs.Tokens.{tokens}
-use Rattle.jul_adj.specs.Reading.{reads, read_tokens, Gives}
+use Rattle.jul_adj.specs.Reading.{read_tokens, Gives}
 use Rattle.jul_adj.proofs.LawfulLaws.{given_is_lawful}
 use Rattle.jul_adj.proofs.StreamLaws.{short_says}
 use Rattle.jul_adj.proofs.reading.read_graph.Goals as goal

@@ -1,8 +1,8 @@
-use Rattle.std.proofs.Common.{◌≡◌, ℕ, ◌<◌, ◌^◌, List, length, sym, ◌∙◌, ap, refl, subst, arith}
+use Rattle.std.proofs.Common.{◌≡◌, ◌<◌, length, ◌∙◌, ap, refl, arith}
 use Rattle.jul_text.specs.declared.shapes.Shape.TheVariants.{Plain}
 use Rattle.jul_text.specs.declared.shapes.Mark.{Mark}
-use Rattle.jul_adj.specs.Rules.{behind, bound_of, IsRuledBy}
-use Rattle.jul_adj.proofs.StoringLaws.{storing_none, storing_more, fault_of_mark, behind-behind, bound_of-behind, IsStoring}
+use Rattle.jul_adj.specs.Rules.{behind, bound_of}
+use Rattle.jul_adj.proofs.StoringLaws.{storing_none, storing_more, fault_of_mark, behind-behind, bound_of-behind}
 use Rattle.jul_adj.proofs.storing.store.Goals as goal
 
 abbrev blank : Mark

@@ -1,4 +1,4 @@
-use Rattle.std.proofs.Common.{◌≡◌, ◌+◌, ◌≤◌, ◌<◌, ◌++◌, ℕ, List, Result, Ok, Err, length, take, drop, inr, refl, sym, ◌∙◌, ap, subst, arith, length-append}
+use Rattle.std.proofs.Common.{◌≡◌, ◌≤◌, ◌++◌, ℕ, List, Result, Ok, Err, length, take, drop, inr, ◌∙◌, subst, arith, length-append}
 use Rattle.std.proofs.lemmas.List.{length-take, length-take-le, length-drop}
 use Rattle.jul_base.specs.declared.graphs.RawGraph.{RawGraph}
 use Rattle.jul_text.specs.Tokens.{tokens}
@@ -7,7 +7,7 @@ use Rattle.jul_adj.specs.declared.faults.ReadError.{ReadError}
 use Rattle.jul_adj.specs.Reading.{read_tokens, Gives, Fails}
 use Rattle.jul_adj.specs.Streaming.{IsStreamed}
 use Rattle.jul_adj.proofs.LawfulLaws.{read_is_lawful}
-use Rattle.jul_adj.proofs.StreamLaws.{IsStreaming, stream_end, stream_full, stream_more, unread, err_unread, opened_last, read_keeps}
+use Rattle.jul_adj.proofs.StreamLaws.{stream_end, stream_full, stream_more, unread, err_unread, opened_last, read_keeps}
 use Rattle.jul_adj.proofs.streaming.read_stream.Goals as goal
 use Rattle.jul_adj.proofs.streaming.read_stream.Given as given
 use Rattle.jul_adj.proofs.streaming.read_stream.Goals.{After-finish}

@@ -1,4 +1,4 @@
-use Rattle.std.proofs.Common.{◌≡◌, ℕ, ◌+◌, ◌++◌, length, [], List, sym, subst}
+use Rattle.std.proofs.Common.{◌≡◌, ◌+◌, ◌++◌, length, [], sym, subst}
 use Rattle.std.specs.Prelude.{OnOk}
 use Rattle.jul_text.specs.Feeding.{GrowAlike, ended_marks}
 use Rattle.jul_adj.specs.Storing.{AreMarks}

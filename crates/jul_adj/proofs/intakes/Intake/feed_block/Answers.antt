@@ -1,4 +1,4 @@
-use Rattle.std.proofs.Common.{◌≡◌, ◌+◌, ◌-◌, ◌++◌, ℕ, List, length, take, drop, sym, ◌∙◌, ap, subst, arith}
+use Rattle.std.proofs.Common.{◌++◌, take, subst, arith}
 use Rattle.std.specs.Prelude.{OnOk}
 use Rattle.jul_text.specs.Cuts.{IsWhiteSpan}
 use Rattle.jul_adj.specs.Intakes.{HasTaken}

@@ -1,11 +1,8 @@
-use Rattle.std.proofs.Common.{◌≡◌, ℕ, ◌+◌, ◌++◌, List, length, sym, ◌∙◌, ap, subst}
+use Rattle.std.proofs.Common.{◌≡◌, ℕ, ◌++◌, sym, ◌∙◌, ap}
 use Rattle.std.specs.Prelude.{Ok}
-use Rattle.jul_text.specs.declared.shapes.Mark.{Mark}
 use Rattle.jul_text.specs.Shapes.{marks_from}
 use Rattle.jul_text.specs.Feeding.{ended_marks}
 use Rattle.jul_adj.specs.Marking.{joined}
-use Rattle.jul_adj.specs.Storing.{AreMarks}
-use Rattle.jul_adj.specs.Readings.{HasRead}
 use Rattle.jul_adj.proofs.IntakeLaws.{more_taken}
 use Rattle.jul_adj.proofs.intakes.Intake.feed_together.Goals as goal
 

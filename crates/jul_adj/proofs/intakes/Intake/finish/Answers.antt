@@ -1,4 +1,4 @@
-use Rattle.std.proofs.Common.{◌≡◌, ℕ, ◌∷◌, [], length, List, Some, None, sym, ◌∙◌, ap, subst}
+use Rattle.std.proofs.Common.{◌≡◌, ℕ, length, List, Some, None, sym, ◌∙◌, ap, subst}
 use Rattle.jul_text.specs.Tokens.{tokens}
 use Rattle.jul_text.specs.Feeding.{last_mark}
 use Rattle.jul_adj.specs.Readings.{HasRead}

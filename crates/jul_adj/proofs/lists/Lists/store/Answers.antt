@@ -1,6 +1,6 @@
-use Rattle.std.proofs.Common.{◌≡◌, ℕ, ◌+◌, ◌≤◌, length, subst, arith, inl, inr}
+use Rattle.std.proofs.Common.{◌+◌, ◌≤◌, length, subst, arith, inl, inr}
 use Rattle.jul_adj.specs.Roles.{first_target}
-use Rattle.jul_adj.specs.Readings.{AreLists, IsPart}
+use Rattle.jul_adj.specs.Readings.{IsPart}
 use Rattle.jul_adj.proofs.ListsLaws.{if_ok, offsets_grown, targets_grown, weights_grown}
 use Rattle.jul_adj.proofs.lists.Lists.store.Goals as goal
 

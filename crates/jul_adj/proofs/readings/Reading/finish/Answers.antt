@@ -1,4 +1,4 @@
-use Rattle.std.proofs.Common.{◌≡◌, ◌∙◌, refl, arith}
+use Rattle.std.proofs.Common.{refl, arith}
 use Rattle.jul_adj.proofs.StepLaws.{truncated, whole, all_are, clear_at}
 use Rattle.jul_adj.proofs.ReadingLaws.{made}
 use Rattle.jul_adj.proofs.readings.Reading.finish.Goals as goal

@@ -1,4 +1,4 @@
-use Rattle.std.proofs.Common.{◌≡◌, ℕ, ◌+◌, sym, ◌∙◌, ap, ◌-◌, length, take, subst, drop, arith}
+use Rattle.std.proofs.Common.{◌≡◌, ◌+◌, sym, ◌-◌, length, take, subst, drop, arith}
 use Rattle.jul_adj.specs.Storing.{AreMarks}
 use Rattle.jul_adj.specs.Readings.{HasRead}
 use Rattle.jul_adj.proofs.StepLaws.{clear_at, marks_behind, marks_front}

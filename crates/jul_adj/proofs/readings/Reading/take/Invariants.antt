@@ -1,4 +1,4 @@
-use Rattle.std.proofs.Common.{length, ◌-◌, ◌≡◌, ℕ, ◌+◌, ◌≤◌, List}
+use Rattle.std.proofs.Common.{length, ◌-◌, ℕ, ◌+◌, ◌≤◌, List}
 use Rattle.jul_text.specs.Tokens.{Word}
 use Rattle.jul_adj.specs.Storing.{AreMarks}
 use Rattle.jul_adj.specs.Readings.{HasRead}

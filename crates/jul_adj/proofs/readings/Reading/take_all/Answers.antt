@@ -1,4 +1,4 @@
-use Rattle.std.proofs.Common.{◌≡◌, ◌+◌, ℕ, length, get_or, sym, ◌∙◌, ap, subst}
+use Rattle.std.proofs.Common.{◌≡◌, ◌+◌, length, get_or, sym, ◌∙◌, ap, subst}
 use Rattle.jul_adj.specs.Storing.{AreMarks}
 use Rattle.jul_adj.specs.Readings.{HasRead}
 use Rattle.jul_adj.proofs.IntakeLaws.{cut_taken}

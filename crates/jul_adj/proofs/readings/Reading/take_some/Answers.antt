@@ -1,4 +1,4 @@
-use Rattle.std.proofs.Common.{◌≡◌, ℕ, ◌+◌, [], ◌∷◌, get_or, subst, sym, ap, arith}
+use Rattle.std.proofs.Common.{◌≡◌, ◌+◌, [], ◌∷◌, get_or, subst, sym, ap}
 use Rattle.jul_text.specs.declared.shapes.Shape.TheVariants.{Plain}
 use Rattle.jul_text.specs.declared.shapes.Mark.{Mark}
 use Rattle.jul_adj.specs.Storing.{AreMarks}
