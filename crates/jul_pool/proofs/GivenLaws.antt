@@ -18,7 +18,7 @@ module _ {Out : Type 0} where
       run_of P runs i (omega (arith, times-append i (r.chunk ∷ []) others, times_other i r.chunk (λ e. ne (sym e)), h)) (λ k d lt. a (suc k) d (omega arith)))
       (cases_eq r.chunk i)
 
-  slice_get_below : (outs : List Out) (i : ℕ) (out : Out) → slice_get outs i ≡ Some out → i < length outs
+  pub slice_get_below : (outs : List Out) (i : ℕ) (out : Out) → slice_get outs i ≡ Some out → i < length outs
   slice_get_below [] i out e = absurd (cc)
   slice_get_below (o ∷ outs) zero out e = omega arith
   slice_get_below (o ∷ outs) (suc i) out e = omega (arith, slice_get_below outs i out e)

@@ -11,7 +11,7 @@ use Rattle.jul_base.specs.Numbers.{below}
 use Rattle.jul_base.proofs.PartLaws.{below-more}
 use Rattle.jul_base.specs.Times.{times, EachOnceBelow}
 use Rattle.jul_pool.specs.Runs.{Run, IsRun, EachRunOnce}
-pub use Rattle.jul_pool.proofs.GivenLaws.{given_at}
+pub use Rattle.jul_pool.proofs.GivenLaws.{given_at, slice_get_below}
 use Rattle.jul_base.proofs.TimesLaws.{times-append, times_here, times_other}
 use Rattle.jul_subset.specs.Chunks.{chunk_of}
 
