@@ -185,6 +185,7 @@ UNREADABLE = [
     ("check g .", b"read fault: witness\n"),
     ("check g ''", b"read fault: witness\n"),
     ("check -- g -x", b"read fault: witness\n"),
+    (f"check g {'x' * 5000}", b"read fault: witness\n"),
 ]
 
 
