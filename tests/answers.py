@@ -51,8 +51,8 @@ SOLVED = [
 ]
 
 # options that change no byte
-SETTINGS = ["--workers 1", "--workers 2 --chunk 1", "--workers=7 --chunk=1 --open 1", "--workers 64 --chunk 65536", "--chunk 1 --open 65536",
-            "--open=128 --workers=4 --chunk=256"]
+SETTINGS = ["--workers 1", "--workers 2 --chunk 1", "--workers=7 --chunk=1 --open 1", "--workers 64 --chunk 65536",
+            "--chunk 1 --open 65536", "--open=128 --workers=4 --chunk=256"]
 
 # words, the file, the line on standard error of code 4
 UNSUITED = [

@@ -13,6 +13,7 @@ NO_DATA = {"README.md", "edge_list.py"}
 
 
 def read(name, folder=FOLDER):
+    """The bytes of a file."""
     with open(os.path.join(folder, name), "rb") as file:
         return file.read()
 
@@ -43,6 +44,7 @@ def run_in_shell(command, folder):
 
 
 def test_table(tally, readme):
+    """The table's sizes, and that it has each graph of the folder."""
     table = graphs_of_table(readme)
     for name, *facts in table:
         rows = oracle.read_graph(read(name))
@@ -52,6 +54,7 @@ def test_table(tally, readme):
 
 
 def test_commands(tally, folder, readme):
+    """What each command prints, and that each file is used by one."""
     run = list(commands(readme))
     for command, wanted in run:
         tally.compare(command, run_in_shell(command, folder), wanted)
@@ -64,7 +67,8 @@ def test_results(tally):
     cores = oracle.cores_lines(oracle.read_graph(read("karate_club.adj")))
     tally.compare("the cores of the club", read("karate_club.cores").split(), texts.plain(texts.witness_tokens("Cores", cores)).split())
     tree = oracle.distances_lines(oracle.read_graph(read("swiss_roads.wadj")), 0)
-    tally.compare("the distances from Bern", read("swiss_roads.distances").split(), texts.plain(texts.witness_tokens("Distances", tree)).split())
+    wanted = texts.plain(texts.witness_tokens("Distances", tree)).split()
+    tally.compare("the distances from Bern", read("swiss_roads.distances").split(), wanted)
 
 
 def test_list(tally, folder, readme):
@@ -89,6 +93,7 @@ def test_starter(tally, folder):
 
 
 def test(tally, folder):
+    """All of them."""
     readme = read("README.md").decode()
     bring_up_to_date()
     test_table(tally, readme)

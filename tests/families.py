@@ -48,8 +48,11 @@ def star(rng, n):
 
 def grid(rng, n):
     """A square, with the vertices below and on the right."""
-    side = max(1, int(n ** 0.5))
-    return [(u, v) for u in range(side * side) for v in ([u + 1] if (u + 1) % side else []) + ([u + side] if u + side < side * side else [])]
+    side, pairs = max(1, int(n ** 0.5)), []
+    for u in range(side * side):
+        pairs += [(u, u + 1)] if (u + 1) % side else []
+        pairs += [(u, u + side)] if u + side < side * side else []
+    return pairs
 
 
 def tree(rng, n):

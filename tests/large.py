@@ -58,7 +58,8 @@ def test_demos(tally, folder, columns):
             got = program.run([b"demo", *words, *sizes, *more], b"", folder)
             tally.compare(f"demo {words + more}", got, (0, summary(words[0].decode(), columns[word]), b""))
     most = [b"demo", b"wbfs", b"--n", b"%d" % oracle.MAX_N, b"--pairs", b"0", b"--seed", b"0", b"--source", b"%d" % (oracle.MAX_N - 1)]
-    tally.compare("a demo of the most vertices", program.run(most, b"", folder), (0, b"wbfs n %d m 0 reached 1 max 0\n" % oracle.MAX_N, b""))
+    wanted = 0, b"wbfs n %d m 0 reached 1 max 0\n" % oracle.MAX_N, b""
+    tally.compare("a demo of the most vertices", program.run(most, b"", folder), wanted)
 
 
 def test_faults(tally, folder, graph):
@@ -108,7 +109,8 @@ def test_memory(tally, folder):
     """The right answer or none: with little memory none, with enough of it the right one. The witness is the one written last."""
     none = 7, b"", b"out of memory\n"
     demo = ["demo", "kcore", "--n", str(N), "--pairs", str(PAIRS), "--seed", "7"]
-    for words in (["wbfs", "--bare", "large"], ["wbfs", "large"], ["kcore", "large"], ["cover", "large"], ["check", "large", "right"], demo):
+    check = ["check", "large", "right"]
+    for words in (["wbfs", "--bare", "large"], ["wbfs", "large"], ["kcore", "large"], ["cover", "large"], check, demo):
         right = program.run(words, b"", folder)
         answers = [run_with_little_memory(kibibytes, words, folder) for kibibytes in MEMORIES]
         for kibibytes, answer in zip(MEMORIES, answers):

@@ -18,6 +18,7 @@ READ_BLOCK, WRITE_BLOCK = 65536, 8192   # bytes that the program moves at a time
 
 
 def random_graph(rng, n, places, greatest):
+    """Places between random vertices, with weights up to the greatest."""
     rows = [[] for _ in range(n)]
     for _ in range(places if n else 0):
         rows[rng.randrange(0, n)].append((rng.randrange(0, n), rng.randrange(0, greatest + 1)))
@@ -31,6 +32,7 @@ def random_pairs(rng, n, pairs):
 
 
 def greatest_weight(rng):
+    """The greatest weight of a graph."""
     return rng.choice([0, 1, 1, 9, 100, oracle.MAX_W])
 
 
@@ -46,10 +48,12 @@ def tampered(rng, lines):
 
 
 def no_dashes(lines):
+    """The lines with a number in place of each dash."""
     return [[3 if entry is None else entry for entry in line] for line in lines]
 
 
 def right_witness(rng, rows, source):
+    """A word and lines that a checker takes."""
     word = rng.choice(["Cores", "Distances", "Distances", "Cover"])
     if word == "Cores":
         return word, oracle.cores_lines(rows)
@@ -268,5 +272,6 @@ SCENES = [
 
 
 def random_scene(rng):
+    """One of the scenes."""
     weights, makers = zip(*SCENES)
     return rng.choices(makers, weights)[0](rng)
