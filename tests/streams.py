@@ -126,12 +126,15 @@ def run_until_reader_ends(words, folder):
 
 
 def run_on_fifo(words, text, folder):
-    """The program's answer where the file is a pipe with a name, written by another process."""
-    os.mkfifo(os.path.join(folder, "fifo"))
+    """The program's answer where the file is a pipe with a name, written once by another process."""
+    name = os.path.join(folder, "fifo")
+    os.mkfifo(name)
     with subprocess.Popen(["sh", "-c", "cat > fifo"], cwd=folder, stdin=subprocess.PIPE) as writer:
         writer.stdin.write(text)
         writer.stdin.close()
-        return program.run(words.split(), b"", folder)
+        answer = program.run(words.split(), b"", folder)
+    os.remove(name)
+    return answer
 
 
 def test_redirected(tally, folder):
@@ -148,7 +151,9 @@ def test_slow(tally, folder):
     """Texts that come byte by byte or by way of a named pipe, and a reader that ends before the text."""
     tally.compare("input byte by byte", run_in_pieces(WBFS_INPUT, GRAPH, folder), (0, DISTANCES, b""))
     tally.compare("a witness byte by byte", run_in_pieces("check g -", WITNESS, folder), (0, b"yes\n", b""))
-    tally.compare("a pipe with a name", run_on_fifo("wbfs --bare --source 0 fifo", GRAPH, folder), (0, DISTANCES, b""))
+    for words, text, out in (("wbfs --bare fifo", GRAPH, DISTANCES), ("wbfs fifo", GRAPH, TREE), ("kcore fifo", PAIR, CORES),
+                             ("check g fifo", WITNESS, b"yes\n"), ("check fifo w", GRAPH, b"yes\n")):
+        tally.compare(f"{words}, a pipe with a name", run_on_fifo(words, text, folder), (0, out, b""))
     program.write(folder, "long", b"AdjacencyGraph 200000 0" + b" 0" * 200000)
     for words, first in (("wbfs --bare --source 0 long", b"0\n-\n"), ("kcore long", b"Core"), ("cover long --bare", b"-\n-\n")):
         tally.compare(f"{words}, a reader that ends", run_until_reader_ends(words, folder), (6, first, NO_WRITING))
