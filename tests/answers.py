@@ -123,6 +123,8 @@ CHECKS = [
     ("check g w", LOOP, b"Cores 16777217 x", 3, b"", b"witness: Number at token 1, byte 6\n"),
     ("check g w", LOOP, b"Cores 1 1", 3, b"", b"witness: Truncated at token 3, byte 9\n"),
     ("check g w", LOOP, b"Cores 1 1 0 0", 3, b"", b"witness: Trailing at token 4, byte 12\n"),
+    ("check g w --source 2", b"WeightedAdjacencyGraph 3 1 0 1 1 1 4294967295",
+     b"Distances 3 18446744073709551614 1 2 18446744073709551614 1 2 0 0 -", 1, b"no 0 Parent\n", b""),
     ("check g w", TAILED_TRIANGLE, b"Cores 0", 4, b"", b"witness size 0, graph size 4\n"),
     ("check g w --source 9", LOOP, b"Distances 2 0 0 - 0 0 -", 4, b"", b"witness size 2, graph size 1\n"),
     ("check g w", NO_VERTEX, b"Distances 0", 4, b"", b"source 0 is not below 0\n"),
