@@ -2,140 +2,152 @@
 import oracle
 import program
 
-TWO_WAYS = b"WeightedAdjacencyGraph\r\n3 3\r\n0 2 2\t1 2 1\n5 1 2"
-WEIGHTED = b"WeightedAdjacencyGraph 2 1 0 1 1"
 BLOCK = 65536       # bytes that the program asks for at a time
 
+TAILED_TRIANGLE = b"AdjacencyGraph\n4\n8\n0\n2\n4\n7\n1\n2\n0\n2\n0\n1\n3\n2\n"
+NO_VERTEX = b"AdjacencyGraph\n0\n0\n"
+TWO_WAYS = b"WeightedAdjacencyGraph\r\n3 3\r\n0 2 2\t1 2 1\n5 1 2"
+ZERO_RING = b"WeightedAdjacencyGraph 3 3 0 1 2 1 2 1 0 0 0"
+APART = b"AdjacencyGraph 3 1 0 1 1 1"
+LOWERED = b"WeightedAdjacencyGraph 4 4 0 2 3 4 1 2 3 1 9 1 5 6"
+GREATEST_WEIGHTS = b"WeightedAdjacencyGraph 3 2 0 1 2 1 2 4294967295 4294967295"
+LOOP = b"AdjacencyGraph 1 1 0 0"
+DOUBLED = b"AdjacencyGraph 2 4 0 2 1 1 0 0"
+ONE_WAY = b"AdjacencyGraph 2 1 0 1 1"
+TWO_TRIANGLES = b"AdjacencyGraph 6 14 0 2 4 7 10 12 1 2 0 2 0 1 3 2 4 5 3 5 3 4"
+TWO_SETS = b"AdjacencyGraph 5 4 0 2 4 4 4 2 3 3 4"
+LATE_SET = b"AdjacencyGraph 9 8 0 4 8 8 8 8 8 8 8 4 5 6 7 5 6 7 8"
+ZERO_RING_AND_FIVE = b"WeightedAdjacencyGraph 3 3 0 1 2 1 2 1 5 0 0"
+WEIGHTED = b"WeightedAdjacencyGraph 2 1 0 1 1"
 
-def lines(*values):
-    return "".join(f"{value}\n" for value in values).encode()
-
-
-# source, file, exit code, standard output, standard error; worked out by hand
-RUNS = [
-    ("0", TWO_WAYS, 0, lines(0, 3, 1), b""),
-    ("1", TWO_WAYS, 0, lines("-", 0, "-"), b""),
-    ("0", b"AdjacencyGraph 3 1 0 1 1 1", 0, lines(0, 1, "-"), b""),
-    ("0", b"WeightedAdjacencyGraph 3 3 0 1 2 1 2 1 0 0 0", 0, lines(0, 0, 0), b""),
-    ("0", WEIGHTED.replace(b"2 1 0 1 1", b"3 2 0 1 2 1 2 4294967295 4294967295"), 0, lines(0, 4294967295, 8589934590), b""),
-    ("0", b"AdjacencyGraph " + b"0" * BLOCK + b"1 0 0", 0, lines(0), b""),
-    ("0", b" " * BLOCK + b"AdjacencyGraph 1 0 0" + b"\n" * BLOCK, 0, lines(0), b""),
-    ("0", b"AdjacencyGraph" + b" " * BLOCK + b"x", 3, b"", b"graph: BadNumber at token 1, byte 65550\n"),
-    ("0", b"AdjacencyGraph 0 0 " + b"7" * BLOCK, 3, b"", b"graph: Trailing at token 3, byte 19\n"),
-    ("3", TWO_WAYS, 4, b"", b"source 3 is not below 3\n"),
-    ("0007", TWO_WAYS, 4, b"", b"source 7 is not below 3\n"),
-    ("0", b"AdjacencyGraph\n0\n0\n", 4, b"", b"source 0 is not below 0\n"),
-    ("0", b"", 3, b"", b"graph: Truncated at token 0, byte 0\n"),
-    ("0", b"adjacencygraph 1 0 0", 3, b"", b"graph: Header at token 0, byte 0\n"),
-    ("0", b"AdjacencyGraph -1 0", 3, b"", b"graph: BadNumber at token 1, byte 15\n"),
-    ("0", b"AdjacencyGraph 16777217 0", 3, b"", b"graph: TooManyVertices at token 1, byte 15\n"),
-    ("0", b"AdjacencyGraph 1 134217729 0", 3, b"", b"graph: TooManyEdges at token 2, byte 17\n"),
-    ("0", b"AdjacencyGraph 1 0 5", 3, b"", b"graph: FirstOffset at token 3, byte 19\n"),
-    ("0", b"AdjacencyGraph 3 2 0 9 1 0 0", 3, b"", b"graph: OffsetRange at token 4, byte 21\n"),
-    ("0", b"AdjacencyGraph 3 2 0 2 1 0 0", 3, b"", b"graph: OffsetOrder at token 5, byte 23\n"),
-    ("0", b"AdjacencyGraph 2 1 0 1 2", 3, b"", b"graph: TargetRange at token 5, byte 23\n"),
-    ("0", WEIGHTED + b" -3", 3, b"", b"graph: NegativeWeight at token 6, byte 33\n"),
-    ("0", WEIGHTED + b" -0", 3, b"", b"graph: NegativeWeight at token 6, byte 33\n"),
-    ("0", WEIGHTED + b" 4294967296", 3, b"", b"graph: WeightRange at token 6, byte 33\n"),
-    ("0", WEIGHTED, 3, b"", b"graph: Truncated at token 6, byte 32\n"),
-    ("0", b"AdjacencyGraph 2 1 0 1 1 7", 3, b"", b"graph: Trailing at token 6, byte 25\n"),
+# words with g for the file, the file, standard output
+SOLVED = [
+    ("kcore g", TAILED_TRIANGLE, b"Cores\n4\n2 1\n2 1\n2 1\n1 0\n"),
+    ("kcore g --bare", TAILED_TRIANGLE, b"2\n2\n2\n1\n"),
+    ("kcore g", NO_VERTEX, b"Cores\n0\n"),
+    ("kcore g --bare", NO_VERTEX, b""),
+    ("kcore g", LOOP, b"Cores\n1\n1 0\n"),
+    ("kcore g", DOUBLED, b"Cores\n2\n2 0\n2 0\n"),
+    ("kcore g", TWO_TRIANGLES, b"Cores\n6\n2 0\n2 0\n2 1\n2 1\n2 0\n2 0\n"),
+    ("kcore g", b"WeightedAdjacencyGraph 2 2 0 1 1 0 7 8", b"Cores\n2\n1 0\n1 0\n"),
+    ("wbfs g --source 0", TWO_WAYS, b"Distances\n3\n0 0 -\n3 2 2\n1 1 0\n"),
+    ("wbfs g --source 0 --bare", TWO_WAYS, b"0\n3\n1\n"),
+    ("wbfs g --source 1", TWO_WAYS, b"Distances\n3\n- - -\n0 0 -\n- - -\n"),
+    ("wbfs g", ZERO_RING, b"Distances\n3\n0 0 -\n0 1 0\n0 2 1\n"),
+    ("wbfs g", APART, b"Distances\n3\n0 0 -\n1 1 0\n- - -\n"),
+    ("delta g --delta 10", LOWERED, b"Distances\n4\n0 0 -\n7 2 2\n1 1 0\n12 3 1\n"),
+    ("delta g --delta 10 --bare", LOWERED, b"0\n7\n1\n12\n"),
+    ("wbfs g", LOWERED, b"Distances\n4\n0 0 -\n7 2 2\n1 1 0\n12 3 1\n"),
+    ("wbfs g", GREATEST_WEIGHTS, b"Distances\n3\n0 0 -\n4294967295 1 0\n8589934590 2 1\n"),
+    ("delta g --delta 0004294967295", GREATEST_WEIGHTS, b"Distances\n3\n0 0 -\n4294967295 1 0\n8589934590 2 1\n"),
+    ("cover g", LOOP, b"Cover\n1\n0 0\n"),
+    ("cover g", NO_VERTEX, b"Cover\n0\n"),
+    ("cover g", b"AdjacencyGraph 2 0 0 0", b"Cover\n2\n- -\n- -\n"),
+    ("cover g", TWO_SETS, b"Cover\n5\n0 -\n0 -\n- 0\n- 0\n- 1\n"),
+    ("cover g", LATE_SET, b"Cover\n9\n0 -\n1 -\n- -\n- -\n- 0\n- 0\n- 0\n- 0\n- 1\n"),
+    ("cover g --bare", LATE_SET, b"-\n-\n-\n-\n0\n0\n0\n0\n1\n"),
+    ("wbfs g --bare", b"AdjacencyGraph " + b"0" * BLOCK + b"1 0 0", b"0\n"),
+    ("wbfs g --bare", b" " * BLOCK + b"AdjacencyGraph 1 0 0" + b"\n" * BLOCK, b"0\n"),
 ]
 
-TRIANGLE = b"AdjacencyGraph\n4\n8\n0\n2\n4\n7\n1\n2\n0\n2\n0\n1\n3\n2\n"
-LOOP = b"AdjacencyGraph 1 1 0 0"
-NO_VERTEX = b"AdjacencyGraph\n0\n0\n"
-NO_WEIGHTS = b"WeightedAdjacencyGraph 3 3 0 1 2 1 2 1 5 0 0"
-TWO_SETS = b"AdjacencyGraph 5 4 0 2 4 4 4 2 3 3 4"
-APART = b"AdjacencyGraph 3 1 0 1 1 1"
+# options that change no byte
+SETTINGS = ["--workers 1", "--workers 2 --chunk 1", "--workers=7 --chunk=1 --open 1", "--workers 64 --chunk 65536",
+            "--chunk 1 --open 65536", "--open=128 --workers=4 --chunk=256"]
+
+# words, the file, the line on standard error of code 4
+UNSUITED = [
+    ("kcore g", ONE_WAY, b"asymmetric at place 0\n"),
+    ("kcore g", TWO_WAYS, b"asymmetric at place 0\n"),
+    ("kcore g", b"AdjacencyGraph 3 5 0 2 3 1 2 0 0 0", b"asymmetric at place 3\n"),
+    ("kcore g --bare", TWO_SETS, b"asymmetric at place 0\n"),
+    ("wbfs g --source 3", TWO_WAYS, b"source 3 is not below 3\n"),
+    ("wbfs g --source 007", TWO_WAYS, b"source 7 is not below 3\n"),
+    ("delta g --source 4294967295 --delta 1", TWO_WAYS, b"source 4294967295 is not below 3\n"),
+    ("wbfs g", NO_VERTEX, b"source 0 is not below 0\n"),
+    ("delta g --delta 5 --bare", NO_VERTEX, b"source 0 is not below 0\n"),
+]
+
+# a graph file, and the line on standard error of code 3
+FAULTS = [
+    (b"", b"graph: Truncated at token 0, byte 0\n"),
+    (b"adjacencygraph 1 0 0", b"graph: Header at token 0, byte 0\n"),
+    (b"AdjacencyGraph -1 0", b"graph: BadNumber at token 1, byte 15\n"),
+    (b"AdjacencyGraph 16777217 0", b"graph: TooManyVertices at token 1, byte 15\n"),
+    (b"AdjacencyGraph 1 134217729 0", b"graph: TooManyEdges at token 2, byte 17\n"),
+    (b"AdjacencyGraph 1 0 5", b"graph: FirstOffset at token 3, byte 19\n"),
+    (b"AdjacencyGraph 3 2 0 9 1 0 0", b"graph: OffsetRange at token 4, byte 21\n"),
+    (b"AdjacencyGraph 3 2 0 2 1 0 0", b"graph: OffsetOrder at token 5, byte 23\n"),
+    (b"AdjacencyGraph 2 1 0 1 2", b"graph: TargetRange at token 5, byte 23\n"),
+    (WEIGHTED + b" -3", b"graph: NegativeWeight at token 6, byte 33\n"),
+    (WEIGHTED + b" -0", b"graph: NegativeWeight at token 6, byte 33\n"),
+    (WEIGHTED + b" 4294967296", b"graph: WeightRange at token 6, byte 33\n"),
+    (WEIGHTED, b"graph: Truncated at token 6, byte 32\n"),
+    (b"AdjacencyGraph 2 1 0 1 1 7", b"graph: Trailing at token 6, byte 25\n"),
+    (b"AdjacencyGraph 0 1", b"graph: Truncated at token 3, byte 18\n"),
+    (b"AdjacencyGraph 0 1 0", b"graph: TargetRange at token 3, byte 19\n"),
+    (b"AdjacencyGraph" + b" " * BLOCK + b"x", b"graph: BadNumber at token 1, byte 65550\n"),
+    (b"AdjacencyGraph 0 0 " + b"7" * BLOCK, b"graph: Trailing at token 3, byte 19\n"),
+]
+READERS = ["wbfs g", "delta g --delta 1", "kcore g", "cover g", "check g w", "wbfs g --source 9 --bare"]
+
 YES = (0, b"yes\n", b"")
 
-# source or None, graph, witness, exit code, standard output, standard error; worked out by hand
+# words, graph, witness, exit code, standard output, standard error
 CHECKS = [
-    (None, TRIANGLE, b"Cores\n4\n2 1\n2 1\n2 1\n1 0\n", *YES),
-    (None, TRIANGLE, b"\tCores 0004\r\n2 1 02 1 2 1 1\n\n0", *YES),
-    (None, TRIANGLE, b"Cores\n4\n2 1\n2 1\n2 1\n2 0\n", 1, b"no 3 LowerBound\n", b""),
-    (None, TRIANGLE, b"Cores 4 0 0 0 0 0 0 0 0", 1, b"no 0 UpperBound\n", b""),
-    (None, TRIANGLE, b"Cores 4 2 0 2 0 2 0 1 1", 1, b"no 3 Order\n", b""),
-    ("9", LOOP, b"Cores 1 1 7", *YES),
-    (None, NO_VERTEX, b"Cover 0", *YES),
-    (None, NO_VERTEX, b"Cores 0", *YES),
-    ("0", TWO_WAYS, b"Distances\n3\n0 0 -\n3 2 2\n1 1 0\n", *YES),
-    ("1", TWO_WAYS, b"Distances\n3\n- - -\n0 0 -\n- - -\n", *YES),
-    ("0", TWO_WAYS, b"Distances\n3\n0 0 -\n5 1 0\n1 1 0\n", 1, b"no 2 Lowerable\n", b""),
-    ("0", TWO_WAYS, b"Distances\n3\n0 0 -\n2 2 2\n1 1 0\n", 1, b"no 1 Parent\n", b""),
-    ("0", TWO_WAYS, b"Distances\n3\n0 1 -\n3 2 2\n1 1 0\n", 1, b"no 0 Source\n", b""),
-    (None, NO_WEIGHTS, b"Distances 3 0 0 - 3 1 2 3 2 1", 1, b"no 1 Parent\n", b""),
-    (None, APART, b"Distances 3 0 0 - 1 1 0 - - 1", 1, b"no 2 Unreached\n", b""),
-    (None, TWO_SETS, b"Cover\n5\n0 -\n0 -\n- 0\n- 0\n- 1\n", *YES),
-    (None, TWO_SETS, b"Cover\n5\n0 -\n0 -\n- 0\n- 0\n- 0\n", 1, b"no 4 NotHeld\n", b""),
-    (None, TWO_SETS, b"Cover\n5\n0 -\n0 -\n- 0\n- 5\n- 1\n", 1, b"no 3 NotCovered\n", b""),
-    (None, TWO_SETS, b"Cover\n5\n0 -\n- -\n- 0\n- 0\n- 1\n", 1, b"no 4 NotChosen\n", b""),
-    (None, TWO_SETS, b"Cover\n5\n0 0\n0 -\n- 0\n- 0\n- 1\n", 1, b"no 0 NoElement\n", b""),
-    (None, LOOP, b"", 3, b"", b"witness: Truncated at token 0, byte 0\n"),
-    (None, LOOP, b"cores 1 1 0", 3, b"", b"witness: Header at token 0, byte 0\n"),
-    (None, LOOP, b"Cores 1 x 0", 3, b"", b"witness: Number at token 2, byte 8\n"),
-    (None, LOOP, b"Cores 1 - 0", 3, b"", b"witness: Number at token 2, byte 8\n"),
-    (None, LOOP, b"Cores 1 1 18446744073709551615", 3, b"", b"witness: Number at token 3, byte 10\n"),
-    (None, LOOP, b"Cores 16777217 x", 3, b"", b"witness: Number at token 1, byte 6\n"),
-    (None, LOOP, b"Cores 1 1", 3, b"", b"witness: Truncated at token 3, byte 9\n"),
-    (None, LOOP, b"Cores 1 1 0 0", 3, b"", b"witness: Trailing at token 4, byte 12\n"),
-    (None, TRIANGLE, b"Cores 0", 4, b"", b"witness size 0, graph size 4\n"),
-    ("9", LOOP, b"Distances 2 0 0 - 0 0 -", 4, b"", b"witness size 2, graph size 1\n"),
-    (None, NO_VERTEX, b"Distances 0", 4, b"", b"source 0 is not below 0\n"),
-    ("1", LOOP, b"Distances 1 0 0 -", 4, b"", b"source 1 is not below 1\n"),
-    (None, WEIGHTED, b"", 3, b"", b"graph: Truncated at token 6, byte 32\n"),
+    ("check g w", TAILED_TRIANGLE, b"Cores\n4\n2 1\n2 1\n2 1\n1 0\n", *YES),
+    ("check g w", TAILED_TRIANGLE, b"\tCores 0004\r\n2 1 02 1 2 1 1\n\n0", *YES),
+    ("check g w", TAILED_TRIANGLE, b"Cores\n4\n2 1\n2 1\n2 1\n2 0\n", 1, b"no 3 LowerBound\n", b""),
+    ("check g w", TAILED_TRIANGLE, b"Cores 4 0 0 0 0 0 0 0 0", 1, b"no 0 UpperBound\n", b""),
+    ("check g w", TAILED_TRIANGLE, b"Cores 4 2 0 2 0 2 0 1 1", 1, b"no 3 Order\n", b""),
+    ("check g w --source 9", LOOP, b"Cores 1 1 7", *YES),
+    ("check g w", NO_VERTEX, b"Cover 0", *YES),
+    ("check g w", NO_VERTEX, b"Cores 0", *YES),
+    ("check g w --source 0", TWO_WAYS, b"Distances\n3\n0 0 -\n3 2 2\n1 1 0\n", *YES),
+    ("check g w --source 1", TWO_WAYS, b"Distances\n3\n- - -\n0 0 -\n- - -\n", *YES),
+    ("check g w", TWO_WAYS, b"Distances\n3\n0 0 -\n5 1 0\n1 1 0\n", 1, b"no 2 Lowerable\n", b""),
+    ("check g w", TWO_WAYS, b"Distances\n3\n0 0 -\n2 2 2\n1 1 0\n", 1, b"no 1 Parent\n", b""),
+    ("check g w", TWO_WAYS, b"Distances\n3\n0 1 -\n3 2 2\n1 1 0\n", 1, b"no 0 Source\n", b""),
+    ("check g w", ZERO_RING_AND_FIVE, b"Distances 3 0 0 - 3 1 2 3 2 1", 1, b"no 1 Parent\n", b""),
+    ("check g w", APART, b"Distances 3 0 0 - 1 1 0 - - 1", 1, b"no 2 Unreached\n", b""),
+    ("check g w", TWO_SETS, b"Cover\n5\n0 -\n0 -\n- 0\n- 0\n- 1\n", *YES),
+    ("check g w", TWO_SETS, b"Cover\n5\n0 -\n0 -\n- 0\n- 0\n- 0\n", 1, b"no 4 NotHeld\n", b""),
+    ("check g w", TWO_SETS, b"Cover\n5\n0 -\n0 -\n- 0\n- 5\n- 1\n", 1, b"no 3 NotCovered\n", b""),
+    ("check g w", TWO_SETS, b"Cover\n5\n0 -\n- -\n- 0\n- 0\n- 1\n", 1, b"no 4 NotChosen\n", b""),
+    ("check g w", TWO_SETS, b"Cover\n5\n0 0\n0 -\n- 0\n- 0\n- 1\n", 1, b"no 0 NoElement\n", b""),
+    ("check g w", LOOP, b"", 3, b"", b"witness: Truncated at token 0, byte 0\n"),
+    ("check g w", LOOP, b"cores 1 1 0", 3, b"", b"witness: Header at token 0, byte 0\n"),
+    ("check g w", LOOP, b"1\n", 3, b"", b"witness: Header at token 0, byte 0\n"),
+    ("check g w", LOOP, b"Cores 1 x 0", 3, b"", b"witness: Number at token 2, byte 8\n"),
+    ("check g w", LOOP, b"Cores 1 - 0", 3, b"", b"witness: Number at token 2, byte 8\n"),
+    ("check g w", LOOP, b"Cores 1 1 18446744073709551615", 3, b"", b"witness: Number at token 3, byte 10\n"),
+    ("check g w", LOOP, b"Cores 16777217 x", 3, b"", b"witness: Number at token 1, byte 6\n"),
+    ("check g w", LOOP, b"Cores 1 1", 3, b"", b"witness: Truncated at token 3, byte 9\n"),
+    ("check g w", LOOP, b"Cores 1 1 0 0", 3, b"", b"witness: Trailing at token 4, byte 12\n"),
+    ("check g w --source 2", b"WeightedAdjacencyGraph 3 1 0 1 1 1 4294967295",
+     b"Distances 3 18446744073709551614 1 2 18446744073709551614 1 2 0 0 -", 1, b"no 0 Parent\n", b""),
+    ("check g w", TAILED_TRIANGLE, b"Cores 0", 4, b"", b"witness size 0, graph size 4\n"),
+    ("check g w --source 9", LOOP, b"Distances 2 0 0 - 0 0 -", 4, b"", b"witness size 2, graph size 1\n"),
+    ("check g w", NO_VERTEX, b"Distances 0", 4, b"", b"source 0 is not below 0\n"),
+    ("check g w --source 1", LOOP, b"Distances 1 0 0 -", 4, b"", b"source 1 is not below 1\n"),
+    ("check g w", WEIGHTED, b"", 3, b"", b"graph: Truncated at token 6, byte 32\n"),
 ]
 
-# words that are not taken
-NOT_TAKEN = [
-    ["check", "-", "-"],
-    ["check", "-", "-", "--source", "0"],
-    ["check", "g"],
-    ["check", "g", "g", "--source"],
-    ["check", "--source", "0", "g", "g"],
-    ["check", "g", "g", "--source=0"],
-    ["check", "g", "g", "--bare", "0"],
-    ["check", "g", "-x"],
-    [],
-    ["peel", "g"],
-    ["wbfs", "--bare", "--source", "0"],
-    ["wbfs", "--bare", "--source", "0", "g", "g"],
-    ["wbfs", "--source", "0", "--bare", "g"],
-    ["wbfs", "--bare", "--source", "-1", "g"],
-    ["wbfs", "--bare", "--source", "4294967296", "g"],
-    ["wbfs", "--bare", "--source", "0", ""],
-    ["wbfs", "--bare", "--source", "0", "--bare"],
-    [b"wbfs", b"--bare", b"--source", b"0", b"\xff"],
-    ["wbfs", "--bare", "--source", "0", "--delta", "1", "g"],
-    ["delta", "--bare", "--source", "0", "g"],
-    ["delta", "--bare", "--source", "0", "--delta", "0", "g"],
-    ["delta", "--bare", "--source", "0", "--delta", "4294967296", "g"],
-    ["delta", "--bare", "--delta", "1", "--source", "0", "g"],
-    ["delta", "--bare", "--source", "0", "--delta", "1", "g", "g"],
-    ["delta", "--bare", "--source", "0", "--delta", "1"],
+# words, exit code, standard output, standard error
+DEMOS = [
+    ("demo kcore --n 1 --pairs 3 --seed 7", 0, b"kcore n 1 m 6 max 6 top 1\n", b""),
+    ("demo wbfs --n 5 --pairs 0 --seed 0", 0, b"wbfs n 5 m 0 reached 1 max 0\n", b""),
+    ("demo cover --n 1 --pairs 3 --seed 7", 0, b"cover n 1 m 6 chosen 1 covered 1\n", b""),
+    ("demo delta --delta 5 --n 5 --pairs 0 --seed 0", 0, b"delta n 5 m 0 reached 1 max 0\n", b""),
+    ("demo kcore --n 3 --pairs 0 --seed 18446744073709551615", 0, b"kcore n 3 m 0 max 0 top 3\n", b""),
+    ("demo cover --n 2 --pairs 0 --seed 0", 0, b"cover n 2 m 0 chosen 0 covered 0\n", b""),
+    ("demo wbfs --n 5 --pairs 0 --seed 0 --source 9", 4, b"", b"source 9 is not below 5\n"),
+    ("demo delta --n 5 --pairs 9 --seed 0 --source 5 --delta 3", 4, b"", b"source 5 is not below 5\n"),
 ]
 
 
-def wbfs_words(source, name):
-    return [b"wbfs", b"--bare", b"--source", source.encode(), name]
-
-
-def delta_words(source, delta, name):
-    return [b"delta", b"--bare", b"--source", source.encode(), b"--delta", delta, name]
-
-
-def check_words(source, graph, witness):
-    return [b"check", graph, witness] + ([] if source is None else [b"--source", source.encode()])
-
-
-# words that name a file which can't be read, and the line on standard error
-UNREADABLE = [
-    (wbfs_words("0", b"no_such_file"), b"read fault: graph\n"),
-    (wbfs_words("0", b"."), b"read fault: graph\n"),
-    (check_words(None, b"no_such_file", b"g"), b"read fault: graph\n"),
-    (check_words(None, b"g", b"no_such_file"), b"read fault: witness\n"),
-    (check_words(None, b"g", b"."), b"read fault: witness\n"),
-]
+def words_of(text):
+    """The words of a line, as bytes."""
+    return text.encode().split(b" ") if text else []
 
 
 def compare(tally, folder, words, files, wanted):
@@ -147,34 +159,54 @@ def compare(tally, folder, words, files, wanted):
     tally.compare(f"the oracle on {what}", oracle.answer(words, files), wanted)
 
 
-def test_graphs(tally, folder):
-    for source, text, *wanted in RUNS:
-        for name in (b"g", b"-"):
-            compare(tally, folder, wbfs_words(source, name), {name: text}, tuple(wanted))
-        for delta in (b"1", b"10", b"0004294967295"):
-            compare(tally, folder, delta_words(source, delta, b"g"), {b"g": text}, tuple(wanted))
+def compare_on_both(tally, folder, words, graph, wanted):
+    """Compares the answer to a graph in a file, and to the same one on standard input."""
+    for name in (b"g", b"-"):
+        compare(tally, folder, [name if word == b"g" else word for word in words], {name: graph}, wanted)
 
 
-def test_witnesses(tally, folder):
-    for source, graph, witness, *wanted in CHECKS:
+def source_words(words):
+    """The option of the source, where it stands among the words."""
+    return words[words.index(b"--source"):][:2] if b"--source" in words else []
+
+
+def test_solved(tally, folder):
+    """Each text with the options that change no byte, and its check."""
+    for line, graph, text in SOLVED:
+        compare_on_both(tally, folder, words_of(line), graph, (0, text, b""))
+        for settings in SETTINGS:
+            compare(tally, folder, words_of(settings) + words_of(line), {b"g": graph}, (0, text, b""))
+        if "--bare" not in line:
+            compare(tally, folder, [b"check", b"g", b"w", *source_words(words_of(line))], {b"g": graph, b"w": text}, YES)
+
+
+def test_refused(tally, folder):
+    """Graphs that a task isn't suited to, and files that are no graphs."""
+    for line, graph, message in UNSUITED:
+        compare_on_both(tally, folder, words_of(line), graph, (4, b"", message))
+    for graph, message in FAULTS:
+        for line in READERS:
+            compare_on_both(tally, folder, words_of(line), graph, (3, b"", message))
+
+
+def test_checks(tally, folder):
+    """Verdicts and refusals of the checker, with each of its files on standard input."""
+    for line, graph, witness, *wanted in CHECKS:
         for names in ((b"g", b"w"), (b"-", b"w"), (b"g", b"-")):
-            compare(tally, folder, check_words(source, *names), dict(zip(names, (graph, witness))), tuple(wanted))
+            words = [{b"g": names[0], b"w": names[1]}.get(word, word) for word in words_of(line)]
+            compare(tally, folder, words, dict(zip(names, (graph, witness))), tuple(wanted))
 
 
-def test_names(tally, folder):
-    compare(tally, folder, check_words(None, b"g", b"g"), {b"g": TRIANGLE}, (3, b"", b"witness: Header at token 0, byte 0\n"))
-    for words, line in UNREADABLE:
-        compare(tally, folder, words, {b"g": TRIANGLE}, (5, b"", line))
-
-
-def test_words(tally, folder):
-    for words in NOT_TAKEN:
-        words = [word if isinstance(word, bytes) else word.encode() for word in words]
-        compare(tally, folder, words, {b"-": TWO_WAYS}, (2, b"", oracle.USAGE))
+def test_demos(tally, folder):
+    """Summaries of generated graphs."""
+    for line, *wanted in DEMOS:
+        for settings in ["", *SETTINGS]:
+            compare(tally, folder, words_of(line) + words_of(settings), {}, tuple(wanted))
 
 
 def test(tally, folder):
-    test_graphs(tally, folder)
-    test_witnesses(tally, folder)
-    test_names(tally, folder)
-    test_words(tally, folder)
+    """All of them."""
+    test_solved(tally, folder)
+    test_refused(tally, folder)
+    test_checks(tally, folder)
+    test_demos(tally, folder)

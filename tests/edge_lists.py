@@ -54,20 +54,24 @@ ANSWERS = [
 
 
 def run(words, stdin, folder):
+    """The exit code and both outputs of the script."""
     done = subprocess.run([SCRIPT, *words], input=stdin, capture_output=True, cwd=folder, timeout=program.LONGEST)
     return done.returncode, done.stdout, done.stderr
 
 
 def read(folder, name):
+    """The bytes of a file."""
     with open(os.path.join(folder, name), "rb") as file:
         return file.read()
 
 
 def one_a_line(words):
+    """The words, a line each."""
     return b"".join(word + b"\n" for word in words.split())
 
 
 def test_graphs(tally, folder):
+    """Graphs and names of lists, in a file and on standard input."""
     for options, text, graph, names in GRAPHS:
         program.write(folder, "list", text)
         for name, stdin in (("list", b""), ("-", text)):
@@ -79,6 +83,7 @@ def test_graphs(tally, folder):
 
 
 def test_refusals(tally, folder):
+    """Lists that are refused, and that nothing was written."""
     for text, line, fault in REFUSED:
         program.write(folder, "list", text)
         got = run(["graph", "list", "none"], b"", folder)
@@ -89,6 +94,7 @@ def test_refusals(tally, folder):
 
 
 def test_names(tally, folder):
+    """Names put to answers, and numbers of names."""
     program.write(folder, "names", NAMES)
     for answer, wanted in ANSWERS:
         tally.compare(f"names of {answer!r}", run(["names", "names"], answer, folder), (0, wanted, b""))
@@ -101,6 +107,7 @@ def test_names(tally, folder):
 
 
 def test(tally, folder):
+    """All of them."""
     test_graphs(tally, folder)
     test_refusals(tally, folder)
     test_names(tally, folder)

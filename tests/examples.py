@@ -6,7 +6,6 @@ import subprocess
 import oracle
 import program
 import texts
-import witnesses
 
 FOLDER = os.path.join(program.TOP, "examples")
 STARTER = os.path.join(program.TOP, "bin", "julienne")
@@ -14,6 +13,7 @@ NO_DATA = {"README.md", "edge_list.py"}
 
 
 def read(name, folder=FOLDER):
+    """The bytes of a file."""
     with open(os.path.join(folder, name), "rb") as file:
         return file.read()
 
@@ -31,11 +31,6 @@ def graphs_of_table(readme):
     return [(name, int(n), int(m), symmetric == "yes") for name, n, m, symmetric in rows]
 
 
-def is_symmetric(rows):
-    places = sorted((u, v) for u, row in enumerate(rows) for v, _ in row)
-    return places == sorted((v, u) for u, v in places)
-
-
 def bring_up_to_date():
     """Starts bin/julienne once: where a source is newer than the program, it says so and builds before it answers."""
     subprocess.run([STARTER], stdin=subprocess.DEVNULL, capture_output=True)
@@ -49,15 +44,17 @@ def run_in_shell(command, folder):
 
 
 def test_table(tally, readme):
+    """The table's sizes, and that it has each graph of the folder."""
     table = graphs_of_table(readme)
     for name, *facts in table:
         rows = oracle.read_graph(read(name))
-        tally.compare(f"the table's line of {name}", [len(rows), sum(map(len, rows)), is_symmetric(rows)], facts)
+        tally.compare(f"the table's line of {name}", [len(rows), sum(map(len, rows)), oracle.first_asymmetric_place(rows) is None], facts)
     graphs = {name for name in os.listdir(FOLDER) if name.endswith("adj")}
     tally.compare("the graphs of the table", {name for name, *_ in table}, graphs)
 
 
 def test_commands(tally, folder, readme):
+    """What each command prints, and that each file is used by one."""
     run = list(commands(readme))
     for command, wanted in run:
         tally.compare(command, run_in_shell(command, folder), wanted)
@@ -67,10 +64,11 @@ def test_commands(tally, folder, readme):
 
 def test_results(tally):
     """The two results are those that the tests find by searches of their own."""
-    cores = witnesses.cores_of(oracle.read_graph(read("karate_club.adj")))
+    cores = oracle.cores_lines(oracle.read_graph(read("karate_club.adj")))
     tally.compare("the cores of the club", read("karate_club.cores").split(), texts.plain(texts.witness_tokens("Cores", cores)).split())
-    tree = witnesses.tree_of(oracle.read_graph(read("swiss_roads.wadj")), 0)
-    tally.compare("the distances from Bern", read("swiss_roads.distances").split(), texts.plain(texts.witness_tokens("Distances", tree)).split())
+    tree = oracle.distances_lines(oracle.read_graph(read("swiss_roads.wadj")), 0)
+    wanted = texts.plain(texts.witness_tokens("Distances", tree)).split()
+    tally.compare("the distances from Bern", read("swiss_roads.distances").split(), wanted)
 
 
 def test_list(tally, folder, readme):
@@ -95,6 +93,7 @@ def test_starter(tally, folder):
 
 
 def test(tally, folder):
+    """All of them."""
     readme = read("README.md").decode()
     bring_up_to_date()
     test_table(tally, readme)

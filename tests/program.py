@@ -1,9 +1,9 @@
-"""Runs of the built program."""
+"""Runs of the built program, or of the one that JULIENNE names in the environment."""
 import os
 import subprocess
 
 TOP = os.path.dirname(os.path.dirname(os.path.abspath(__file__)))
-PROGRAM = os.path.join(TOP, "crates", "julienne", "out", "julienne")
+PROGRAM = os.environ.get("JULIENNE") or os.path.join(TOP, "crates", "julienne", "out", "julienne")
 LONGEST = 120       # seconds that a run may take
 
 
@@ -14,5 +14,6 @@ def run(words, stdin, folder):
 
 
 def write(folder, name, text):
+    """Writes a file."""
     with open(os.path.join(folder, name), "wb") as file:
         file.write(text)

@@ -2,9 +2,15 @@
 
 A graph is a list of rows of (target, weight); a witness is a word and lines of numbers, None for a dash.
 """
+from collections import namedtuple
+
+import families
 import oracle
 import texts
 import witnesses
+
+# word is that of the witness
+Scene = namedtuple("Scene", "graph witness source word")
 
 GREATEST = 2**64 - 2        # the greatest number of a witness
 CUT = 2**32                 # what a number loses that is kept in 32 bits
@@ -12,6 +18,7 @@ READ_BLOCK, WRITE_BLOCK = 65536, 8192   # bytes that the program moves at a time
 
 
 def random_graph(rng, n, places, greatest):
+    """Places between random vertices, with weights up to the greatest."""
     rows = [[] for _ in range(n)]
     for _ in range(places if n else 0):
         rows[rng.randrange(0, n)].append((rng.randrange(0, n), rng.randrange(0, greatest + 1)))
@@ -20,15 +27,12 @@ def random_graph(rng, n, places, greatest):
 
 def random_pairs(rng, n, pairs):
     """A symmetric graph: each pair stands in both rows."""
-    rows = [[] for _ in range(n)]
-    for _ in range(pairs):
-        u, v = rng.randrange(0, n), rng.randrange(0, n)
-        rows[u].append((v, 1))
-        rows[v].append((u, 1))
-    return rows
+    pairs = [(rng.randrange(0, n), rng.randrange(0, n)) for _ in range(pairs)]
+    return families.rows_of(rng, pairs, n, True)
 
 
 def greatest_weight(rng):
+    """The greatest weight of a graph."""
     return rng.choice([0, 1, 1, 9, 100, oracle.MAX_W])
 
 
@@ -44,13 +48,15 @@ def tampered(rng, lines):
 
 
 def no_dashes(lines):
+    """The lines with a number in place of each dash."""
     return [[3 if entry is None else entry for entry in line] for line in lines]
 
 
 def right_witness(rng, rows, source):
+    """A word and lines that a checker takes."""
     word = rng.choice(["Cores", "Distances", "Distances", "Cover"])
     if word == "Cores":
-        return word, witnesses.cores_of(rows)
+        return word, oracle.cores_lines(rows)
     if word == "Distances":
         return word, witnesses.tree_of(rows, source)
     return word, witnesses.cover_of(rng, rows)
@@ -75,18 +81,32 @@ def any_texts(rng):
     witness = texts.witness_tokens(word, no_dashes(lines) if word == "Cores" and rng.random() < 0.9 else lines)
     if rng.random() < 0.15:
         witness = texts.damaged(rng, witness)
-    return texts.spread(rng, tokens), texts.spread(rng, witness), source
+    return Scene(texts.spread(rng, tokens), texts.spread(rng, witness), source, word)
 
 
-def scene(rng, rows, word, lines, source):
-    return texts.spread(rng, texts.graph_tokens(rows, True)), texts.spread(rng, texts.witness_tokens(word, lines)), source
+def scene(rng, rows, word, lines, source, weighted=True):
+    """A graph and a witness as they are, spread over lines."""
+    graph, witness = texts.graph_tokens(rows, weighted), texts.witness_tokens(word, lines)
+    return Scene(texts.spread(rng, graph), texts.spread(rng, witness), source, word)
+
+
+def solved(rng):
+    """A graph of some family and the columns that are defined for it, with entries changed or not."""
+    weighted, word = rng.random() < 0.7, rng.choice(["Cores", "Distances", "Distances", "Cover"])
+    rows = {"Cores": families.symmetric_rows, "Distances": families.random_rows, "Cover": families.set_rows}[word](rng)
+    source = rng.randrange(0, len(rows))
+    weighed = rows if weighted else [[(target, 1) for target, _ in row] for row in rows]
+    lines = oracle.columns(word.encode(), weighed, source)
+    if rng.random() < 0.6:
+        lines = no_dashes(tampered(rng, lines)) if word == "Cores" and rng.random() < 0.8 else tampered(rng, lines)
+    return scene(rng, rows, word, lines, source, weighted)
 
 
 def tampered_cores(rng):
     """Cores of a symmetric graph, and levels that are no rounds."""
     n = rng.randrange(2, 10)
     rows = random_pairs(rng, n, rng.randrange(n // 2, 3 * n))
-    lines = witnesses.cores_of(rows)
+    lines = oracle.cores_lines(rows)
     for _ in range(rng.choice([0, 1, 1, 2])):
         line, other = rng.choice(lines), rng.choice(lines)
         line[1] = rng.choice([other[1], other[1], 0, line[1] + 1, line[1] + CUT, GREATEST])
@@ -198,13 +218,14 @@ def numbers_at_bounds(rng):
         put_at_bound(rng, graph, [(1, oracle.MAX_N), (2, oracle.MAX_M), (offset, places), (3 + n, n - 1), (len(graph) - 1, oracle.MAX_W)])
     else:
         put_at_bound(rng, witness, [(1, oracle.MAX_N), (2 + 3 * source, GREATEST), (len(witness) - 1, GREATEST)])
-    return texts.spread(rng, graph), texts.spread(rng, witness), source
+    return Scene(texts.spread(rng, graph), texts.spread(rng, witness), source, "Distances")
 
 
 def padded(rng):
     """A graph behind so many white bytes that a block of reading ends within it."""
-    graph, witness, source = any_texts(rng)
-    return rng.choice(texts.WHITE)[:1] * (READ_BLOCK - rng.randrange(0, len(graph) + 2)) + graph, witness, source
+    made = any_texts(rng)
+    white = rng.choice(texts.WHITE)[:1] * (READ_BLOCK - rng.randrange(0, len(made.graph) + 2))
+    return made._replace(graph=white + made.graph)
 
 
 def long_answer(rng):
@@ -230,11 +251,12 @@ def odd_token(rng):
     tokens = rng.choice([graph, graph, witness])
     at = rng.choice([0, 1, 2, rng.randrange(0, len(tokens)), len(tokens) - 1, len(tokens) - 1])
     tokens[at] = rng.choice(NUMBERS) if at else rng.choice(["AdjacencyGraph", word, tokens[0].lower(), tokens[0] + "s", tokens[0][1:]])
-    return texts.spread(rng, graph), texts.spread(rng, witness), source
+    return Scene(texts.spread(rng, graph), texts.spread(rng, witness), source, word)
 
 
 # how often a scene is taken, and the scene
 SCENES = [
+    (14, solved),
     (8, any_texts),
     (3, tampered_cores),
     (4, tampered_tree),
@@ -250,5 +272,6 @@ SCENES = [
 
 
 def random_scene(rng):
+    """One of the scenes."""
     weights, makers = zip(*SCENES)
     return rng.choices(makers, weights)[0](rng)

@@ -1,56 +1,19 @@
-"""Right witnesses of a graph, found without the program: cores by peeling, distances with a tree, a cover.
+"""Right witnesses of a graph that aren't those that the program writes: another parent, another cover.
 
-Rows are lists of (target, weight), and the time of each call is linear in them, but for the search of distances.
+Rows are lists of (target, weight).
 """
 import oracle
 
 
-def in_sources(rows):
-    """For each vertex the sources of the places that lead to it."""
-    sources = [[] for _ in rows]
-    for u, row in enumerate(rows):
-        for target, _ in row:
-            sources[target].append(u)
-    return sources
-
-
-def cores_of(rows):
-    """Cores and rounds of a peeling that takes every vertex of few places left at once; symmetry isn't asked for."""
-    sources, left = in_sources(rows), [len(row) for row in rows]
-    lines, remaining, bound, level = [None] * len(rows), set(range(len(rows))), 0, 0
-    taken = []
-    while remaining:
-        if not taken:
-            bound = min(left[v] for v in remaining)
-            taken = [v for v in remaining if left[v] <= bound]
-        for v in taken:
-            lines[v] = [bound, level]
-        remaining.difference_update(taken)
-        lowered = {u for v in taken for u in sources[v] if u in remaining}
-        for v in taken:
-            for u in sources[v]:
-                left[u] -= 1
-        taken = [u for u in lowered if left[u] <= bound]
-        level += 1
-    return lines
-
-
 def tree_of(rows, source):
-    """Distances with least hops and some parent that bears them out."""
-    dist = oracle.distances(rows, source) if source < len(rows) else [None] * len(rows)
-    lines = [[d, None, None] for d in dist]
-    if source < len(rows):
-        lines[source][1] = 0
-        frontier, hops = [source], 0
-        while frontier:
-            hops += 1
-            reached = []
-            for u in frontier:
-                for v, w in rows[u]:
-                    if lines[v][1] is None and dist[u] + w == dist[v]:
-                        lines[v][1], lines[v][2] = hops, u
-                        reached.append(v)
-            frontier = reached
+    """Distances with least hops and some parent that bears them out; none where the source is no vertex."""
+    if source >= len(rows):
+        return [[None, None, None] for _ in rows]
+    lines = oracle.distances_lines(rows, source)
+    for u, row in enumerate(rows):
+        for v, w in row:
+            if v != source and lines[u][0] is not None and lines[u][0] + w == lines[v][0] and lines[u][1] + 1 == lines[v][1]:
+                lines[v][2] = u
     return lines
 
 

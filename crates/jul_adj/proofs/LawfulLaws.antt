@@ -17,9 +17,10 @@ use Rattle.jul_adj.specs.declared.faults.Fault.{Fault}
 use Rattle.jul_adj.specs.declared.faults.FaultKind.{FaultKind}
 use Rattle.jul_adj.specs.declared.faults.FaultKind.TheVariants as kinds
 use Rattle.jul_adj.specs.Roles.{value_at, said_vertices, said_places, first_target, first_weight, all_tokens, is_weighted}
-use Rattle.jul_adj.specs.Faults.{weight_fault, kind_at, fault_in, fault_at, with_place, faults, number_fault, next_offset_fault, target_fault, offset_fault}
-use Rattle.jul_adj.specs.Reading.{values_between, graph_of, decided, read_tokens}
-use Rattle.jul_adj.specs.Scanning.{NoneBefore}
+use Rattle.jul_adj.specs.Faults.{weight_fault, kind_at, fault_in, fault_at, with_place, faults, number_fault, next_offset_fault, target_fault, offset_fault, NoneBefore}
+use Rattle.std.specs.Prelude.{Result, IfOk}
+use Rattle.jul_adj.specs.declared.faults.ReadError.{ReadError}
+use Rattle.jul_adj.specs.Reading.{values_between, graph_of, decided, read_tokens, Gives}
 use Rattle.jul_adj.proofs.RoleLaws.{role_offset, role_target, role_weight}
 
 -- ---- no fault at all
@@ -88,10 +89,10 @@ weight_ok Negative e = absurd (cc)
 weight_ok Bad e = absurd (cc)
 
 -- the values of a range of tokens, one by one
-length-values : (ws : List Word) (from to : ℕ) → from ≤ to → to ≤ length ws → length (values_between ws from to) ≡ to - from
+pub length-values : (ws : List Word) (from to : ℕ) → from ≤ to → to ≤ length ws → length (values_between ws from to) ≡ to - from
 length-values ws from to le in' = length-map (take (to - from) (drop from ws)) (λ (w : Word). digits_value 10 w.text) ∙ omega (arith, length-take (to - from) (drop from ws), length-drop from ws)
 
-get_or-values : (ws : List Word) (from to k : ℕ) → to ≤ length ws → from + k < to → get_or (values_between ws from to) k 0 ≡ value_at ws (from + k)
+pub get_or-values : (ws : List Word) (from to k : ℕ) → to ≤ length ws → from + k < to → get_or (values_between ws from to) k 0 ≡ value_at ws (from + k)
 get_or-values ws from to k in' lt =
     get_or-map (λ (w : Word). digits_value 10 w.text) (take (to - from) (drop from ws)) k no_word 0 (omega (arith, length-take (to - from) (drop from ws), length-drop from ws))
     ∙ ap (λ (w : Word). digits_value 10 w.text) (get_or-take (to - from) (drop from ws) k no_word (omega arith) ∙ get_or-drop from ws k no_word)
@@ -201,3 +202,7 @@ pub read_is_lawful : (ws : List Word) (len : ℕ) (g : RawGraph) → read_tokens
 read_is_lawful ws len g e =
     let r : IsRead ws g = is_read ws len g e in
     subst IsLawful r.graph (lawful ws r.none r.enough)
+
+pub given_is_lawful : (ws : List Word) (len : ℕ) (r : Result RawGraph ReadError) → Gives r (read_tokens ws len) → IfOk r IsLawful
+given_is_lawful ws len (Ok g) h = read_is_lawful ws len g h
+given_is_lawful ws len (Err e) h = tt

@@ -15,13 +15,12 @@ use Rattle.jul_text.proofs.LineLaws.{texts, texts-lines}
 use Rattle.jul_text.specs.Scanning.{text_at, no_word}
 use Rattle.jul_adj.specs.declared.faults.FaultKind.TheVariants as kinds
 use Rattle.jul_adj.specs.Roles.{value_at, plain_word, weighted_word, said_vertices, said_places, is_weighted, first_target, first_weight, all_tokens}
-use Rattle.jul_adj.specs.Faults.{kind_at, fault_in, header_fault, number_fault, next_offset_fault, offset_fault, target_fault, weight_fault}
+use Rattle.jul_adj.specs.Faults.{kind_at, fault_in, header_fault, number_fault, next_offset_fault, offset_fault, target_fault, weight_fault, NoneBefore}
 use Rattle.jul_adj.specs.Reading.{values_between, graph_of, read_tokens, reads}
-use Rattle.jul_adj.specs.Scanning.{NoneBefore}
 use Rattle.jul_adj.specs.Texts.{header_word, graph_tokens, graph_text}
 use Rattle.jul_adj.proofs.RoleLaws.{role_offset, role_target, role_weight}
 use Rattle.jul_adj.proofs.ReadingLaws.{reads_graph}
-use Rattle.jul_adj.proofs.ScanningLaws.{made}
+use Rattle.jul_adj.proofs.ReadingLaws.{made}
 use Rattle.jul_adj.proofs.TextLaws.{AreSmall, small_offsets, small_targets, small_weights, are_tokens, graph_text-short}
 
 values-decimals : (xs : List ℕ) → AreSmall xs → map (digits_value 10) (map decimal xs) ≡ xs

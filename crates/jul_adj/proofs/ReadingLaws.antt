@@ -1,16 +1,17 @@
 -- The first token that has a fault decides.
-use Rattle.std.proofs.Common.{◌≡◌, ℕ, zero, suc, ◌+◌, ◌-◌, ◌<◌, ◌≤◌, List, [], ◌∷◌, length, Some, None, Ok, Err, ◌∙◌, refl, ap, arith, inl, inr}
+use Rattle.std.proofs.Common.{◌≡◌, ℕ, zero, suc, ◌+◌, ◌-◌, ◌<◌, ◌≤◌, Bool, List, [], ◌∷◌, length, Some, None, Ok, Err, ◌∙◌, refl, ap, arith, inl, inr}
 use Rattle.std.specs.List.{filter_map, range_with_len, cons_option}
 use Rattle.std.proofs.lemmas.Bool.{cases_eq, lt-ltb, le-ltb, cond-true, cond-false}
 use Rattle.jul_text.specs.Tokens.{Word}
 use Rattle.jul_text.specs.Scanning.{word_at}
+use Rattle.jul_base.specs.declared.graphs.RawGraph.{RawGraph}
 use Rattle.jul_adj.specs.declared.faults.Fault.{Fault}
 use Rattle.jul_adj.specs.declared.faults.FaultKind.{FaultKind}
-use Rattle.jul_adj.specs.declared.faults.FaultKind.TheVariants.{Truncated}
+use Rattle.jul_adj.specs.declared.faults.FaultKind.TheVariants.{Truncated, Trailing}
 use Rattle.jul_adj.specs.Roles.{all_tokens}
-use Rattle.jul_adj.specs.Faults.{kind_at, fault_at, with_place, faults}
+use Rattle.jul_adj.specs.Faults.{kind_at, fault_in, fault_at, with_place, faults, NoneBefore}
 use Rattle.jul_adj.specs.Reading.{graph_of, decided, read_tokens}
-use Rattle.jul_adj.specs.Scanning.{NoneBefore}
+use Rattle.jul_adj.proofs.RoleLaws.{role_extra}
 
 pub none_more : (ws : List Word) (j : ℕ) → NoneBefore ws j → kind_at ws j ≡ None → NoneBefore ws (j + 1)
 none_more ws j before here k lt = elim (cases_eq k j) [ inl e ↦ ap (kind_at ws) e ∙ here | inr ne ↦ before k (omega arith) ]
@@ -57,3 +58,12 @@ reads_truncated ws len none lt = ap (decided ws len) (faults_none ws none) ∙ c
 
 pub reads_graph : (ws : List Word) (len : ℕ) → NoneBefore ws (length ws) → length ws ≡ all_tokens ws → read_tokens ws len ≡ Ok (graph_of ws)
 reads_graph ws len none e = ap (decided ws len) (faults_none ws none) ∙ cond-false _ _ _ (le-ltb (length ws) (all_tokens ws) (omega arith))
+
+-- a token behind the last one is a fault
+pub kind_extra : (ws : List Word) (j : ℕ) → j ≡ all_tokens ws → kind_at ws j ≡ Some Trailing
+kind_extra ws j e = ap (fault_in ws j) (role_extra ws j (omega (arith, e)))
+
+-- graphs of the same parts
+pub made : (w w' : Bool) (os os' ts ts' xs xs' : List ℕ) → w ≡ w' → os ≡ os' → ts ≡ ts' → xs ≡ xs' →
+    ◌≡◌ {A = RawGraph} (record { weighted = w; offsets = os; targets = ts; weights = xs }) (record { weighted = w'; offsets = os'; targets = ts'; weights = xs' })
+made w w' os os' ts ts' xs xs' a b c d = cc

@@ -1,5 +1,5 @@
 -- The faults of the tokens of a graph file. At one token the kinds are tried in their order.
-use Rattle.std.specs.Prelude.{ℕ, ◌-◌, ◌||◌, List, length, Option, Some, None, nat_lt, ◌==◌, if◌then◌else◌}
+use Rattle.std.specs.Prelude.{◌≡◌, ℕ, ◌<◌, ◌-◌, ◌||◌, List, length, Option, Some, None, nat_lt, ◌==◌, if◌then◌else◌}
 use Rattle.std.specs.List.{filter_map}
 use Rattle.std.specs.Str.{bytes_eq}
 use Rattle.jul_base.specs.declared.limits.TheConstants.{MAX_N, MAX_M, MAX_W}
@@ -75,3 +75,7 @@ fault_at ws j = with_place ws j (kind_at ws j)
 -- the faults of the tokens, in order
 abbrev pub faults : List Word → List Fault
 faults ws = filter_map (fault_at ws) (below (length ws))
+
+-- no token before the number j has a fault
+abbrev pub NoneBefore : List Word → ℕ → Type 0
+NoneBefore ws j = (k : ℕ) → k < j → kind_at ws k ≡ None

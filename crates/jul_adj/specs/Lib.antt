@@ -2,6 +2,12 @@ pub mod Names
 pub mod Roles
 pub mod Faults
 pub mod Reading
+pub mod Readings
+pub mod Intakes
+pub mod Marking
 pub mod Rules
-pub mod Scanning
+pub mod Storing
+pub mod Streaming
 pub mod Texts
+pub mod Spreading
+pub mod Generated

@@ -2,6 +2,10 @@
 use Rattle.std.specs.Prelude.{ℕ, List, codes}
 use Rattle.jul_adj.specs.declared.faults.FaultKind.{FaultKind}
 use Rattle.jul_adj.specs.declared.faults.FaultKind.TheVariants.{Header, BadNumber, TooManyVertices, TooManyEdges, FirstOffset, OffsetRange, OffsetOrder, TargetRange, NegativeWeight, WeightRange, Truncated, Trailing, TooLong}
+use Rattle.jul_adj.specs.declared.faults.ReadError.{ReadError}
+use Rattle.jul_adj.specs.declared.faults.ReadError.TheVariants as read_errors
+use Rattle.jul_adj.specs.declared.faults.StreamError.{StreamError}
+use Rattle.jul_adj.specs.declared.faults.StreamError.TheVariants as stream_errors
 
 -- the name of a kind, as it is told
 abbrev pub kind_name : FaultKind → List ℕ
@@ -18,3 +22,8 @@ kind_name WeightRange = codes "WeightRange"
 kind_name Truncated = codes "Truncated"
 kind_name Trailing = codes "Trailing"
 kind_name TooLong = codes "TooLong"
+
+-- an error of the reading of bytes, as one of the reading from a shelf
+abbrev pub streamed : ReadError → StreamError
+streamed (read_errors.Bad fault) = stream_errors.Bad fault
+streamed read_errors.Memory = stream_errors.Memory

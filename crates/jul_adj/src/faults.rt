@@ -1,8 +1,10 @@
 //! What may be wrong with a graph file, and why one was not read.
 ghost use Rattle.std.specs.Prelude.{◌≡◌, ◌≤◌, length};
-ghost use Rattle.jul_adj.specs.Names.{kind_name};
+ghost use Rattle.jul_adj.specs.Names.{kind_name, streamed};
 ghost use Rattle.jul_adj.specs.declared.faults.ReadError.TheVariants.{Bad, Memory};
+ghost use Rattle.jul_adj.specs.declared.faults.StreamError.TheVariants as streams;
 
+use jul_base::Failed;
 use std::alloc::{AllocError, AllocFailed};
 use std::fmt;
 use thiserror::Error;
@@ -117,5 +119,46 @@ impl<T: Drop> From<AllocFailed<T>> for ReadError {
 
     fn from(_e: AllocFailed<T>) -> ReadError {
         ReadError::Memory
+    }
+}
+
+/// Why a graph was not read from a shelf.
+#[derive(Clone, Copy, Debug, PartialEq, Eq, Error)]
+pub enum StreamError {
+    /// The shelf failed, or no file has the name.
+    #[error("Failed")]
+    Failed,
+    /// The file is no graph, and this is its first fault.
+    #[error("Bad")]
+    Bad(Fault),
+    /// Memory ran out, which says nothing of the file.
+    #[error("Memory")]
+    Memory,
+}
+
+impl From<Failed> for StreamError {
+    ghost from_gives = { λ _ e. e ≡ streams.Failed };
+
+    fn from(_e: Failed) -> StreamError {
+        StreamError::Failed
+    }
+}
+
+impl From<AllocError> for StreamError {
+    ghost from_gives = { λ _ e. e ≡ streams.Memory };
+
+    fn from(_e: AllocError) -> StreamError {
+        StreamError::Memory
+    }
+}
+
+impl From<ReadError> for StreamError {
+    ghost from_gives = { λ r e. e ≡ streamed r };
+
+    fn from(e: ReadError) -> StreamError {
+        match e {
+            ReadError::Bad(fault) => StreamError::Bad(fault),
+            ReadError::Memory => StreamError::Memory,
+        }
     }
 }

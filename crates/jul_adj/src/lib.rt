@@ -2,19 +2,28 @@
 //!
 //! A file is in the text format AdjacencyGraph or WeightedAdjacencyGraph of the Problem Based
 //! Benchmark Suite (PBBS): a header word, the numbers of vertices and places, the offsets, the targets,
-//! and in a weighted file the weights. Start with `read_graph`; a file that is no graph has one `Fault`.
+//! and in a weighted file the weights. Start with `read_graph`; a file that is no graph has one `Fault`. `generate` makes a
+//! graph from a seed.
 #![tactic(auto)]
 
+mod drawing;
 mod faults;
-mod numbers;
-mod offsets;
+mod generating;
+mod intakes;
+mod lists;
+mod marking;
 mod reading;
+mod readings;
 mod rules;
-mod scanning;
+mod sizes;
+mod storing;
+mod streaming;
 mod writing;
 
-pub use faults::{Fault, FaultKind, ReadError};
+pub use faults::{Fault, FaultKind, ReadError, StreamError};
+pub use generating::generate;
 pub use reading::read_graph;
+pub use streaming::{MAX_BLOCK, read_stream};
 pub use writing::write_graph;
 
 #[cfg(test)]

@@ -1,3 +1,4 @@
 pub mod Counts
 pub mod Adds
 pub mod Counting
+pub mod Packs

@@ -1,13 +1,13 @@
 //! Counts worked out by hand, with several numbers of workers.
-ghost use Rattle.std.specs.Prelude.{◌≡◌, ◌≤◌, IfOk};
+ghost use Rattle.std.specs.Prelude.{◌≡◌, ◌≤◌, ◌==◌, not, IfOk};
 ghost use Rattle.jul_base.specs.Graph.{vertices};
 ghost use Rattle.jul_count.specs.Adds.{CanCount};
 
-use crate::edge_map_count;
+use crate::{edge_map_count, pack};
 use jul_base::{Gate, Ids, OpenGate, RawGraph};
 use jul_pool::Team;
 use jul_rows::Rows;
-use jul_subset::VertexSubset;
+use jul_subset::{VertexSubset, VertexTest};
 use jul_words::{CountSeat, CountWords};
 use std::alloc::{AllocError, Global};
 use std::process::Abort;
@@ -123,5 +123,56 @@ fn each_chunk_of_members_passes_the_gate(rt: HostRuntime) -> Result<(), Fail> {
     };
     counted(&rt, rt.alloc(), &rows, &from, 2, &gate)?;
     assert_eq!(rt; gate.passes.swap(0, Ordering::SeqCst), 4);
+    Ok(())
+}
+
+/// Keeps each vertex but one.
+#[derive(Drop)]
+struct AllBut {
+    v: u32,
+}
+
+impl VertexTest for AllBut {
+    ghost can_test = { λ _ _. Unit {0} };
+
+    ghost kept = { λ test v. not (v == test.v) };
+
+    fn keeps(&self, v: u32) -> bool {
+        v != self.v
+    }
+}
+
+/// Whether these are the sets with these elements.
+fn packs_are(packs: &[(u32, Ids)], expected: &[(u32, &[u32])]) -> bool {
+    if packs.len() != expected.len() {
+        return false;
+    }
+    for ((s, kept), (set, elements)) in packs.iter().zip(expected.iter()) {
+        if *s != *set || kept.as_slice() != *elements {
+            return false;
+        }
+    }
+    true
+}
+
+#[test]
+fn sets_are_packed_in_the_order_of_the_list(rt: HostRuntime) -> Result<(), Fail> {
+    // Set 0 is 2 and 3, set 1 is 3 and 4.
+    let rows = rows_of(&rt, rt.alloc(), &[0, 2, 4, 4, 4], &[2, 3, 3, 4])?;
+    let sets = rows.elements()?;
+    assert_eq!(rt; sets.n(), 5);
+    let expected = [(1u32, [4u32].as_slice()), (0, [2].as_slice())];
+    for workers in [1u32, 2, 7] {
+        let team = Team {
+            workers,
+            chunk: 1,
+            gate: &OpenGate,
+        };
+        let packs = pack(&rt, rt.alloc(), &team, &[1, 0], &sets, &AllBut { v: 3 })?;
+        assert!(rt;
+            packs_are(packs.as_slice(), expected.as_slice()),
+            "{workers} workers"
+        );
+    }
     Ok(())
 }

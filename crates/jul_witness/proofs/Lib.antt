@@ -7,3 +7,4 @@ pub mod PartLaws
 pub mod ReadBackLaws
 pub mod ResultLaws
 pub mod Rows
+pub mod SummaryRows

@@ -4,3 +4,4 @@ pub mod Texts
 pub mod Lawful
 pub mod Reading
 pub mod Scanning
+pub mod Summaries

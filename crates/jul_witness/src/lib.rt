@@ -12,12 +12,14 @@ mod forms;
 mod lines;
 mod reading;
 mod scanning;
+mod summaries;
 mod texts;
 mod witnesses;
 
 pub use bare_texts::write_bare;
 pub use faults::{WitnessError, WitnessFault, WitnessKind};
 pub use reading::read_witness;
+pub use summaries::{greatest_number, greatest_value, number_count, times_in};
 pub use texts::{write_cores, write_cover, write_distances};
 pub use witnesses::Witness;
 

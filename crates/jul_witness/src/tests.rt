@@ -1,9 +1,9 @@
 //! Reading and writing with ample memory. Texts and the places of faults were worked out by hand.
 use crate::{
-    Witness, WitnessError, WitnessFault, WitnessKind, read_witness, write_bare, write_cores,
-    write_cover, write_distances,
+    Witness, WitnessError, WitnessFault, WitnessKind, greatest_number, greatest_value,
+    number_count, read_witness, times_in, write_bare, write_cores, write_cover, write_distances,
 };
-use jul_base::{MAX_BYTES, MemSink, NONE};
+use jul_base::{Column, MAX_BYTES, MemSink, NONE};
 use std::alloc::{AllocError, Global};
 use std::test::Fail;
 
@@ -99,4 +99,14 @@ fn each_kind_of_fault_is_named_at_its_token(rt: HostRuntime) {
             _ => panic!(rt; "no fault was found"),
         }
     }
+}
+
+#[test]
+fn the_numbers_of_a_column_are_counted(rt: HostRuntime) -> Result<(), Fail> {
+    let column = Column::from_vec([2, 0, NONE, 2].to_vec(rt.alloc())?);
+    assert_eq!(rt; number_count(&column), 3);
+    assert_eq!(rt; greatest_number(&column), 2);
+    assert_eq!(rt; times_in(&column, 2), 2);
+    assert_eq!(rt; greatest_value(&column), NONE);
+    Ok(())
 }

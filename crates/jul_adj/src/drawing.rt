@@ -1,0 +1,57 @@
+//! Pairs of vertices from the words of a generator.
+ghost use Rattle.std.specs.Prelude.{◌≡◌, ◌<◌, ◌≤◌, [], ◌∷◌};
+ghost use Rattle.jul_adj.specs.Generated.{word, next_state, pair_at, after_pair};
+
+use rand_xoshiro::SplitMix64;
+use rand_xoshiro::rand_core::utils::NextWord;
+
+/// The weights are 1 to as many.
+const WEIGHTS: u64 = 100;
+
+/// An entry in the row of a vertex.
+#[derive(Clone, Copy)]
+pub struct Entry {
+    /// The vertex.
+    pub row: u32,
+    /// The vertex that the edge leads to.
+    pub target: u32,
+    /// Its weight.
+    pub weight: u32,
+}
+
+// The next word of the generator.
+#[inline]
+fn next_word(generator: &mut SplitMix64) -> u64
+    ensures word { result ≡ word generator.old }
+    ensures state { generator.new ≡ next_state generator.old }
+{
+    generator.next_word()
+}
+
+/// The next pair of vertices below `n`, with a weight from 1 to 100: an entry in the row of each.
+#[inline]
+pub fn draw_pair(generator: &mut SplitMix64, n: u32) -> (Entry, Entry)
+    requires { 1 ≤ n }
+
+    ensures entries { result.0 ∷ result.1 ∷ [] ≡ pair_at n generator.old }
+    ensures vertices { (result.0.row < n) × (result.1.row < n) }
+    ensures state { generator.new ≡ after_pair generator.old }
+{
+    let x = next_word(generator);
+    let y = next_word(generator);
+    let z = next_word(generator);
+    let a = (x % u64::from(n)) as u32;
+    let b = (y % u64::from(n)) as u32;
+    let weight = (1 + z % WEIGHTS) as u32;
+    let there = Entry {
+        row: a,
+        target: b,
+        weight,
+    };
+    let back = Entry {
+        row: b,
+        target: a,
+        weight,
+    };
+    (there, back)
+}

@@ -1,0 +1,17 @@
+pub mod CoverLeftLaws
+pub mod CoverWinLaws
+pub mod CoverBoundLaws
+pub mod CoverDrawLaws
+pub mod CoverBidLaws
+pub mod CoverPackLaws
+pub mod CoverOwnerLaws
+pub mod CoverStepLaws
+pub mod SizeLaws
+pub mod ColumnLaws
+pub mod PackingLaws
+pub mod OfferLaws
+pub mod MoveLaws
+pub mod RoundLaws
+pub mod TurnLaws
+pub mod MoveTurnLaws
+pub mod EngineLaws

@@ -1,0 +1,9 @@
+pub mod CoverBounds
+pub mod CoverBids
+pub mod CoverDraws
+pub mod Columns
+pub mod PackedSets
+pub mod Offers
+pub mod Choosing
+pub mod CoverMoves
+pub mod CoverWork

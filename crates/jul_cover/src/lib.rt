@@ -1,0 +1,23 @@
+//! Set cover by bids: the approximate cover of Julienne (Dhulipala, Blelloch, Shun, SPAA 2017), in rounds.
+//!
+//! Sets wait in the bucket of the logarithm of their size, the greatest first. A round draws a bucket, packs its sets down to
+//! the elements that aren't covered (`packing`), lets each that is still large bid for its elements over words that workers
+//! lower (`offering`), chooses those that won half (`choosing`), and lets these take theirs. `cover` does it over tables and
+//! buckets that are handed in, `cover_of` makes its own.
+#![tactic(auto)]
+
+mod choosing;
+mod engine;
+mod moving;
+mod offering;
+mod packed_sets;
+mod packing;
+mod rounds;
+mod sizes;
+mod taking;
+mod turns;
+
+pub use engine::{CoverOut, cover, cover_of};
+
+#[cfg(test)]
+mod tests;

@@ -1,0 +1,120 @@
+//! Where drawn sets go that weren't chosen: groups of moves, a group for each chunk of sets.
+ghost use Rattle.std.specs.Prelude.{◌≡◌, ℕ, ◌*◌, ◌<◌, ◌^◌, [], length, All, IfOk};
+ghost use Rattle.std.specs.List.{flat_map};
+ghost use Rattle.jul_subset.specs.Chunks.{chunk_of};
+ghost use Rattle.jul_cover.specs.PackedSets.{pack_at, ArePacked};
+ghost use Rattle.jul_cover.specs.CoverMoves.{next_place, move_of, moves_of, CanMove};
+
+use crate::packed_sets::PackedSets;
+use crate::packing::pack_of;
+use crate::sizes::place_of;
+use jul_base::{Free, Gate, NONE};
+use jul_bucket::{Buckets, Dest};
+use jul_pool::{Job, Team, run_all};
+use jul_subset::{chunk_at, joined};
+use std::alloc::{AllocError, Global};
+use std::thread::Threads;
+
+/// The moves of drawn sets to the buckets of what is left of them, so many sets in a chunk.
+#[derive(Drop)]
+struct MoveJob<'a> {
+    alloc: Global,
+    drawn: &'a [u32],
+    size: u32,
+    packs: &'a PackedSets,
+    round: &'a [u64],
+    buckets: &'a Buckets,
+}
+
+impl<'a> Job for MoveJob<'a> {
+    type Token = Free;
+
+    type Out = Vec<(u32, u64)>;
+
+    ghost can_run = { λ j chunk _. (chunk * j.size < length j.drawn.now) × ArePacked j.packs.now
+        × (length j.round.now ≡ j.packs.now.n) × (length j.buckets.now.places ≡ j.packs.now.n)
+        × All (CanMove j.buckets.now j.packs.now.n (pack_at j.packs.now) j.round.now) j.drawn.now };
+
+    ghost gives = { λ j chunk out added.
+        (out.items ≡ moves_of (pack_at j.packs.now) j.round.now (chunk_of j.drawn.now j.size chunk)) × (added ≡ []) };
+
+    fn run(&self, chunk: u32, _token: &mut Free) -> Result<Vec<(u32, u64)>, AllocError> {
+        let group = chunk_at(self.drawn, self.size as usize, chunk as usize);
+        moves_among(self.alloc, group, self.packs, self.round, self.buckets)
+    }
+}
+
+/// The moves of some drawn sets, in order.
+fn moves_among(
+    alloc: Global,
+    group: &[u32],
+    packs: &PackedSets,
+    round: &[u64],
+    buckets: &Buckets,
+) -> Result<Vec<(u32, u64)>, AllocError>
+    requires packed { ArePacked packs.now }
+    requires round { length round.now ≡ packs.now.n }
+    requires places { length buckets.now.places ≡ packs.now.n }
+    requires can { All (CanMove buckets.now packs.now.n (pack_at packs.now) round.now) group.now }
+
+    ensures { IfOk result (λ moves. moves.items ≡ moves_of (pack_at packs.now) round.now group.now) }
+{
+    let mut moves = Vec::new(alloc);
+    for s in group {
+        let next = next_of(packs, round, *s);
+        match buckets.get_bucket(buckets.place(*s), next) {
+            Dest::Null => {}
+            Dest::Open(_) | Dest::Overflow => moves.push((*s, next))?,
+        }
+    }
+    Ok(moves)
+}
+
+/// The bucket of what is left of a set, `NONE` where nothing is left or the set was chosen.
+fn next_of(packs: &PackedSets, round: &[u64], s: u32) -> u64
+    requires packed { ArePacked packs.now }
+    requires round { length round.now ≡ packs.now.n }
+    requires in_range { s < packs.now.n }
+
+    ensures { result ≡ next_place (pack_at packs.now) round.now s }
+{
+    if round[s as usize] == NONE {
+        place_of(pack_of(packs, s).len())
+    } else {
+        NONE
+    }
+}
+
+/// The move of each drawn set that wasn't chosen and has elements left to the bucket of its size.
+///
+/// Workers make a group of moves for each chunk of at most `team.chunk` sets. Few sets start no thread.
+pub(crate) fn moves_after<R: Threads + Sync, G: Gate>(
+    rt: &R,
+    alloc: Global,
+    team: &Team<'_, G>,
+    drawn: &[u32],
+    packs: &PackedSets,
+    round: &[u64],
+    buckets: &Buckets,
+) -> Result<Vec<(u32, u64)>, AllocError>
+    requires few { length drawn.now < 2 ^ 32 }
+    requires packed { ArePacked packs.now }
+    requires round { length round.now ≡ packs.now.n }
+    requires places { length buckets.now.places ≡ packs.now.n }
+    requires can { All (CanMove buckets.now packs.now.n (pack_at packs.now) round.now) drawn.now }
+
+    ensures { IfOk result (λ moves. moves.items ≡ moves_of (pack_at packs.now) round.now drawn.now) }
+{
+    let chunks = drawn.len().div_ceil(team.chunk as usize) as u32;
+    let job = MoveJob {
+        alloc,
+        drawn,
+        size: team.chunk,
+        packs,
+        round,
+        buckets,
+    };
+    let team = team.for_work(drawn.len() as u64);
+    let done = run_all(rt, alloc, &team, chunks, &job, Free::root())?;
+    joined(alloc, &done.outs)
+}

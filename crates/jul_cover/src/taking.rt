@@ -1,0 +1,53 @@
+//! What the root takes over from the words of the owners.
+ghost use Rattle.std.specs.Prelude.{◌≡◌, ◌<◌, length, All};
+ghost use Rattle.std.specs.List.{flat_map};
+ghost use Rattle.jul_words.specs.Seats.{IsSeatOf, IsAlone};
+ghost use Rattle.jul_words.specs.Least.{word_of};
+ghost use Rattle.jul_cover.specs.PackedSets.{pack_at, ArePacked};
+ghost use Rattle.jul_cover.specs.Offers.{IsRootOf};
+ghost use Rattle.jul_cover.specs.Columns.{AreWritten};
+
+use crate::packed_sets::PackedSets;
+use crate::packing::pack_of;
+use jul_words::{MinSeat, MinWords};
+
+/// Writes the round of each chosen set, and at each of its elements what the word of the owner has become.
+pub(crate) fn take_chosen(
+    packs: &PackedSets,
+    chosen: &[u32],
+    t: u64,
+    words: &MinWords,
+    seat: &mut MinSeat,
+    round: &mut [u64],
+    by: &mut [u64],
+)
+    requires packed { ArePacked packs.now }
+    requires in_range { All (λ s. s < packs.now.n) chosen.now }
+    requires root { IsRootOf packs.now.n words.now seat.old }
+    requires round { length round.old ≡ packs.now.n }
+    requires by { length by.old ≡ packs.now.n }
+
+    ensures same { seat.new ≡ seat.old }
+    ensures round { AreWritten chosen.now (λ _. t) round.old round.new }
+    ensures by { AreWritten (flat_map (pack_at packs.now) chosen.now) (word_of seat.old) by.old by.new }
+{
+    for s in chosen {
+        round[*s as usize] = t;
+        take_words(pack_of(packs, *s), words, seat, by);
+    }
+}
+
+/// Writes at each of these elements what its word has become.
+fn take_words(elements: &[u32], words: &MinWords, seat: &mut MinSeat, by: &mut [u64])
+    requires table { IsSeatOf words.now seat.old }
+    requires alone { IsAlone seat.old }
+    requires words { All (λ e. e < length seat.old.home.starts) elements.now }
+    requires by { All (λ e. e < length by.old) elements.now }
+
+    ensures same { seat.new ≡ seat.old }
+    ensures by { AreWritten elements.now (word_of seat.old) by.old by.new }
+{
+    for e in elements {
+        by[*e as usize] = words.load(seat, *e);
+    }
+}

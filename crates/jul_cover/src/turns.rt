@@ -1,0 +1,175 @@
+//! What is done with the sets of a draw.
+ghost use Rattle.std.specs.Prelude.{◌≡◌, ℕ, ◌+◌, ◌<◌, ◌≤◌, ◌==◌, length, All, IfOk, if◌then◌else◌};
+ghost use Rattle.std.specs.List.{flat_map};
+ghost use Rattle.std.specs.List.Sorted.{IsStrictlyIncreasing};
+ghost use Rattle.jul_base.specs.declared.limits.TheConstants.{MAX_N};
+ghost use Rattle.jul_words.specs.Least.{word_of};
+ghost use Rattle.jul_cover.specs.PackedSets.{pack_at, ArePacked};
+ghost use Rattle.jul_cover.specs.CoverBids.{bid_base};
+ghost use Rattle.jul_cover.specs.Columns.{AreWritten};
+ghost use Rattle.jul_cover.specs.Offers.{IsRootOf, HasOffered};
+ghost use Rattle.jul_cover.specs.Choosing.{chosen_of};
+ghost use Rattle.jul_cover.specs.CoverWork.{CanTurn, HasTurned};
+
+use crate::choosing::{active_sets, chosen_sets, work_of};
+use crate::moving::moves_after;
+use crate::offering::offer_all;
+use crate::packed_sets::PackedSets;
+use crate::packing::pack_each;
+use crate::sizes::base_of;
+use crate::taking::take_chosen;
+use jul_base::Gate;
+use jul_bucket::Buckets;
+use jul_pool::Team;
+use jul_subset::VertexSubset;
+use jul_words::{MinSeat, MinWords};
+use std::alloc::{AllocError, Global};
+use std::thread::Threads;
+
+/// Where the rounds stand.
+#[derive(Drop)]
+pub(crate) struct Standing {
+    /// The number of the next round.
+    pub(crate) round: u64,
+    /// The root of the table of bids, with none out.
+    pub(crate) bids: MinSeat,
+    /// The root of the table of owners, with none out.
+    pub(crate) owners: MinSeat,
+}
+
+/// Sets that were chosen, and the root of the table of bids.
+#[derive(Drop)]
+struct Chosen {
+    sets: Vec<u32>,
+    seat: MinSeat,
+}
+
+/// Packs the drawn sets, lets those bid that are active, gives those that win half their elements, and moves the others to the
+/// buckets of their sizes. Where none is active no round is made.
+pub(crate) fn take_turn<R: Threads + Sync, G: Gate>(
+    rt: &R,
+    alloc: Global,
+    team: &Team<'_, G>,
+    packs: &mut PackedSets,
+    drawn: Vec<u32>,
+    bucket: u64,
+    bids: &MinWords,
+    owners: &MinWords,
+    at: Standing,
+    round: &mut [u64],
+    by: &mut [u64],
+    buckets: &mut Buckets,
+) -> Result<Standing, AllocError>
+    requires can { CanTurn bids.now owners.now bucket drawn.items packs.old round.old by.old
+        (record { round = at.round; bids = at.bids; owners = at.owners }) buckets.old }
+
+    ensures { IfOk result (λ r. HasTurned bucket drawn.items packs.old packs.new round.old by.old round.new by.new
+        (record { round = at.round; bids = at.bids; owners = at.owners })
+        (record { round = r.round; bids = r.bids; owners = r.owners }) buckets.old buckets.new) }
+{
+    let Standing {
+        round: t,
+        bids: bid_seat,
+        owners: owner_seat,
+    } = at;
+    pack_each(packs, drawn.as_slice(), by);
+    let active = active_sets(alloc, packs, drawn.as_slice(), bucket)?;
+    let next = round_after(t, active.as_slice());
+    let chosen = choose(rt, alloc, team, packs, active, bucket, t, bids, bid_seat)?;
+    let owner_seat = give(
+        rt,
+        alloc,
+        team,
+        packs,
+        chosen.sets,
+        t,
+        owners,
+        owner_seat,
+        round,
+        by,
+    )?;
+    let moves = moves_after(rt, alloc, team, drawn.as_slice(), packs, round, buckets)?;
+    buckets.update_buckets(moves.as_slice())?;
+    Ok(Standing {
+        round: next,
+        bids: chosen.seat,
+        owners: owner_seat,
+    })
+}
+
+/// The number of the round after this draw, which is a round where some set is active.
+fn round_after(t: u64, active: &[u32]) -> u64
+    requires few { t ≤ MAX_N }
+
+    ensures { result ≡ (if length active.now == 0 then t else t + 1) }
+{
+    if active.len() == 0 { t } else { t + 1 }
+}
+
+/// The active sets bid for their elements, and those that hold half are chosen.
+fn choose<R: Threads + Sync, G: Gate>(
+    rt: &R,
+    alloc: Global,
+    team: &Team<'_, G>,
+    packs: &PackedSets,
+    active: Vec<u32>,
+    bucket: u64,
+    t: u64,
+    words: &MinWords,
+    seat: MinSeat,
+) -> Result<Chosen, AllocError>
+    requires packed { ArePacked packs.now }
+    requires increasing { IsStrictlyIncreasing active.items }
+    requires in_range { All (λ s. s < packs.now.n) active.items }
+    requires few { t ≤ MAX_N }
+    requires root { IsRootOf packs.now.n words.now seat }
+
+    ensures offered { IfOk result (λ r. HasOffered active.items (pack_at packs.now) (bid_base t) seat r.seat) }
+    ensures chosen { IfOk result (λ r. r.sets.items ≡
+        chosen_of (pack_at packs.now) (word_of r.seat) (bid_base t) bucket active.items) }
+{
+    let base = base_of(t);
+    let work = work_of(packs, active.as_slice());
+    let members = VertexSubset::from_increasing(alloc, packs.n, active);
+    let mut seat = offer_all(rt, alloc, team, packs, &members, work, base, words, seat)?;
+    let Some(active) = members.as_slice() else {
+        unreachable!()
+    };
+    let sets = chosen_sets(alloc, packs, active, bucket, base, words, &mut seat)?;
+    Ok(Chosen { sets, seat })
+}
+
+/// The chosen sets take their elements, each the least set that holds it, and get the number of the round.
+fn give<R: Threads + Sync, G: Gate>(
+    rt: &R,
+    alloc: Global,
+    team: &Team<'_, G>,
+    packs: &PackedSets,
+    chosen: Vec<u32>,
+    t: u64,
+    words: &MinWords,
+    seat: MinSeat,
+    round: &mut [u64],
+    by: &mut [u64],
+) -> Result<MinSeat, AllocError>
+    requires packed { ArePacked packs.now }
+    requires increasing { IsStrictlyIncreasing chosen.items }
+    requires in_range { All (λ s. s < packs.now.n) chosen.items }
+    requires root { IsRootOf packs.now.n words.now seat }
+    requires round { length round.old ≡ packs.now.n }
+    requires by { length by.old ≡ packs.now.n }
+
+    ensures offered { IfOk result (λ r. HasOffered chosen.items (pack_at packs.now) 0 seat r) }
+    ensures round { IfOk result (λ _. AreWritten chosen.items (λ _. t) round.old round.new) }
+    ensures by { IfOk result (λ r.
+        AreWritten (flat_map (pack_at packs.now) chosen.items) (word_of r) by.old by.new) }
+{
+    let work = work_of(packs, chosen.as_slice());
+    let members = VertexSubset::from_increasing(alloc, packs.n, chosen);
+    let mut seat = offer_all(rt, alloc, team, packs, &members, work, 0, words, seat)?;
+    let Some(chosen) = members.as_slice() else {
+        unreachable!()
+    };
+    take_chosen(packs, chosen, t, words, &mut seat, round, by);
+    Ok(seat)
+}

@@ -1,0 +1,146 @@
+"""The files: tokens, numbers, graphs and witnesses, each with its first fault."""
+import re
+
+MAX_N, MAX_M, MAX_W = 2**24, 2**27, 2**32 - 1
+GREATEST = 2**64 - 2        # the greatest number of a witness
+COLUMNS = {b"Cores": 2, b"Distances": 3, b"Cover": 2}
+
+
+class Fault(Exception):
+    """The first fault of a file: its kind, the number of its token and the byte at which that begins."""
+
+    def __init__(self, kind, token, at):
+        super().__init__(kind)
+        self.place = b"%s at token %d, byte %d\n" % (kind.encode(), token, at)
+
+
+def is_number(token):
+    """Whether a token is one or more digits."""
+    return re.fullmatch(rb"[0-9]+", token) is not None
+
+
+def value(token):
+    """The number that digits name, or another one far above each bound: Python reads no number of many thousand digits."""
+    return int(token.lstrip(b"0")[:40] or b"0")
+
+
+class Tokens:
+    """The tokens of a text, taken one after another, and the faults of the one taken last."""
+
+    def __init__(self, text):
+        self.matches = re.finditer(rb"[^ \t\r\n]+", text)
+        self.length = len(text)
+        self.taken = 0
+        self.last = None
+
+    def take(self):
+        """The next token."""
+        match = next(self.matches, None)
+        if match is None:
+            raise Fault("Truncated", self.taken, self.length)
+        self.taken += 1
+        self.last = match
+        return match.group()
+
+    def number(self):
+        """The number of a graph that is the next token."""
+        token = self.take()
+        if not is_number(token):
+            raise self.fault("BadNumber")
+        return value(token)
+
+    def fault(self, kind):
+        """A fault at the token taken last."""
+        return Fault(kind, self.taken - 1, self.last.start())
+
+    def end(self):
+        """Refuses a token that follows."""
+        self.last = next(self.matches, None)
+        if self.last is not None:
+            self.taken += 1
+            raise self.fault("Trailing")
+
+
+def read_size(tokens):
+    """The numbers of vertices and of places."""
+    n = tokens.number()
+    if n > MAX_N:
+        raise tokens.fault("TooManyVertices")
+    m = tokens.number()
+    if m > MAX_M:
+        raise tokens.fault("TooManyEdges")
+    return n, m
+
+
+def read_offsets(tokens, n, m):
+    """The place at which each row begins."""
+    offsets = []
+    for index in range(n):
+        offset = tokens.number()
+        if index == 0 and offset != 0:
+            raise tokens.fault("FirstOffset")
+        if offset > m:
+            raise tokens.fault("OffsetRange")
+        if index > 0 and offset < offsets[-1]:
+            raise tokens.fault("OffsetOrder")
+        offsets.append(offset)
+    return offsets
+
+
+def read_target(tokens, n):
+    """The target of the next place."""
+    target = tokens.number()
+    if target >= n:
+        raise tokens.fault("TargetRange")
+    return target
+
+
+def read_weight(tokens):
+    """The weight of the next place."""
+    token = tokens.take()
+    if re.fullmatch(rb"-[0-9]+", token):
+        raise tokens.fault("NegativeWeight")
+    if not is_number(token):
+        raise tokens.fault("BadNumber")
+    if value(token) > MAX_W:
+        raise tokens.fault("WeightRange")
+    return value(token)
+
+
+def read_graph(text):
+    """The rows of a graph file as lists of (target, weight), or its first fault."""
+    tokens = Tokens(text)
+    header = tokens.take()
+    if header not in (b"AdjacencyGraph", b"WeightedAdjacencyGraph"):
+        raise tokens.fault("Header")
+    n, m = read_size(tokens)
+    offsets = read_offsets(tokens, n, m)
+    targets = [read_target(tokens, n) for _ in range(m)]
+    weights = [1] * m
+    if header.startswith(b"Weighted"):
+        weights = [read_weight(tokens) for _ in range(m)]
+    tokens.end()
+    ends = offsets[1:] + [m]
+    return [list(zip(targets[a:b], weights[a:b])) for a, b in zip(offsets, ends)]
+
+
+def read_bounded(tokens, bound, has_dash):
+    """The number of a witness that is the next token, None for a dash where one may stand."""
+    token = tokens.take()
+    if token == b"-" and has_dash:
+        return None
+    if not is_number(token) or value(token) > bound:
+        raise tokens.fault("Number")
+    return value(token)
+
+
+def read_witness(text):
+    """The word of a witness and its lines of numbers, None for a dash, or its first fault."""
+    tokens = Tokens(text)
+    word = tokens.take()
+    if word not in COLUMNS:
+        raise tokens.fault("Header")
+    n = read_bounded(tokens, MAX_N, False)
+    lines = [[read_bounded(tokens, GREATEST, word != b"Cores") for _ in range(COLUMNS[word])] for _ in range(n)]
+    tokens.end()
+    return word, lines
