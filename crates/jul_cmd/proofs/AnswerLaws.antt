@@ -1,5 +1,5 @@
 -- The answer of a run, from what its parts found.
-use Rattle.std.proofs.Common.{◌≡◌, ℕ, ◌≤◌, List, [], ◌∷◌, Option, Some, None, Result, Ok, Err, IfSome, IfOk, refl, sym, ◌∙◌, subst, ap, arith, inl, inr}
+use Rattle.std.proofs.Common.{◌≡◌, ℕ, ◌≤◌, List, [], ◌∷◌, take, Option, Some, None, Result, Ok, Err, IfSome, IfOk, refl, sym, ◌∙◌, subst, ap, arith, inl, inr}
 use Rattle.std.specs.Option.{option_map, IsSomeAnd}
 use Rattle.std.proofs.lemmas.List.{take_all}
 use Rattle.jul_base.specs.declared.graphs.RawGraph.{RawGraph}
@@ -7,21 +7,22 @@ use Rattle.jul_base.specs.Graph.{vertices}
 use Rattle.jul_base.specs.Sinks.{SinkState, Appended}
 use Rattle.jul_base.specs.Shelves.{ShelfState, Told, File, IsMissing, contents, known_name, after_open, files_and_last}
 use Rattle.jul_base.specs.Loading.{FailedLoading}
-use Rattle.jul_base.proofs.SinkLaws.{Rose-after}
+use Rattle.jul_base.proofs.SinkLaws.{Rose-after, Appended-none}
 use Rattle.jul_witness.specs.declared.faults.WitnessFault.{WitnessFault as FaultOfWitness}
 use Rattle.jul_cmd.specs.declared.statuses.Status.{Status}
 use Rattle.jul_cmd.specs.declared.statuses.Status.TheVariants.{Usage, GraphFault, WitnessFault, ReadFault, WriteFault, Memory}
 use Rattle.jul_cmd.specs.declared.statuses.Which.TheVariants as which
 use Rattle.jul_cmd.specs.declared.replies.Reply.{Reply}
 use Rattle.jul_cmd.specs.Statuses.{stage_of}
-use Rattle.jul_cmd.specs.Queries.{Input, graph_file, Problem, distances, Form, Work, solve, check, meant, witness_name, Asked}
-use Rattle.jul_cmd.specs.Words.{asked}
+use Rattle.jul_query.specs.Queries.{Input, graph_file, generated, Problem, distances, cores, cover, Form, Work, solve, check, meant, witness_name, Asked}
+use Rattle.jul_query.specs.Words.{asked}
 use Rattle.jul_cmd.specs.Files.{graph_of_file, IsFile, IsOpenedLast, IsAtEnd, IsRead}
-use Rattle.jul_cmd.specs.Solving.{IsUnsuited, IsDone, IsSolved}
+use Rattle.jul_cmd.specs.Suited.{IsUnsuited}
+use Rattle.jul_cmd.specs.Solving.{IsDone, IsSolved}
 use Rattle.jul_cmd.specs.Checking.{IsTold, judged_file, IsChecked}
 use Rattle.jul_cmd.specs.Answers.{InputSays}
 use Rattle.jul_cmd.specs.Outcomes.{IsTooLong, HasRead, read_before, IsAnswer, HasCause, IsUntroubled, IsComplete}
-use Rattle.jul_cmd.specs.Parts.{IsGiven, IsInputRead, IsInputUnread, IsWitnessUnread, IsUnsolved, HasChecked, IsUnchecked, IsRefused, text_of}
+use Rattle.jul_cmd.specs.Parts.{IsGiven, IsInputRead, IsInputUnread, IsWitnessUnread, IsUnsolved, HasChecked, IsUnchecked, IsRefusal, IsRefused, text_of}
 use Rattle.jul_cmd.proofs.SourceLaws.{refusal_stage}
 use Rattle.jul_cmd.proofs.QueryLaws.{named_file}
 use Rattle.jul_cmd.proofs.FileLaws.{graph_to_end, fault_to_end, witness_to_end}
@@ -87,20 +88,29 @@ input_refused (graph_file name) work a b status (inl faulty) =
 input_refused (graph_file name) work a b status (inr (inl unloaded)) =
     inr (inl (which.Graph, unloaded.0, record { name = name; named = refl; failed = unloaded.1 }))
 input_refused (graph_file name) work a b status (inr (inr memory)) = inr (inr memory)
+input_refused (generated n pairs seed) work a b status memory = inr (inr memory)
 
 -- ---- a problem that is solved
 
 -- the graph is refused at its stage
 unsuited_stage : (g : RawGraph) (problem : Problem) (status : Status) → IsUnsuited g problem status → stage_of status ≡ 4
 unsuited_stage g (distances sources) status unsuited = refusal_stage (vertices g) sources status unsuited
+unsuited_stage g cores status (p, first, is) = ap stage_of is
+unsuited_stage g cover status none = absurd none
+
+take_none : (k : ℕ) → ◌≡◌ {A = List (List ℕ)} (take k []) []
+take_none k = take_all k [] (omega arith)
 
 solve_read : (input : Input) (problem : Problem) (form : Form) (a b : ShelfState) (g : RawGraph) (status : Status) → 1 ≤ stage_of status → IsInputRead input a b g →
     HasRead a b (read_before (query_of input (solve problem form)) status) status
 solve_read (graph_file name) problem form a b g status le read =
     subst (λ names. HasRead a b names status) (sym (take_all (stage_of status) (name ∷ []) le)) (read.last, λ other. graph_to_end a b name g read)
+solve_read (generated n pairs seed) problem form a b g status le read =
+    subst (λ names. HasRead a b names status) (sym (take_none (stage_of status))) read.0
 
 solve_said : (input : Input) (a b : ShelfState) (g : RawGraph) → IsInputRead input a b g → InputSays a input (Ok g)
 solve_said (graph_file name) a b g read = read.content
+solve_said (generated n pairs seed) a b g read = ap (λ (h : RawGraph). Ok h) read.1
 
 solve_answer : (input : Input) (work : Work) (problem : Problem) (form : Form) (a b : ShelfState) (g : RawGraph) (status : Status) (text : List ℕ) → work ≡ solve problem form →
     IsInputRead input a b g → 1 ≤ stage_of status → IsSolved g problem form status text → IsAnswer (query_of input work) a b status text
@@ -169,6 +179,17 @@ check_answer (graph_file graph) work a b c g name sources status text e read le 
       read = subst (λ names. HasRead a c names status) (sym (take_all (stage_of status) (graph ∷ name ∷ []) le))
           (IsOpenedLast-then a b c graph name read.last checked.read.last, λ other. checked_to_end b c g name (meant sources) status text checked other);
     })
+check_answer (generated n pairs seed) work a b c g name sources status text e read le checked =
+    let own : HasChecked a c g name (meant sources) status text = subst (λ s. HasChecked s c g name (meant sources) status text) read.0 checked in
+    subst (λ w. IsAnswer (query_of (generated n pairs seed) w) a c status text) (sym e) (record {
+      answer = record {
+        graph = Ok g;
+        input = ap (λ (h : RawGraph). Ok h) read.1;
+        answer = record { witness = own.witness; file = own.read.content; judged = own.judged };
+      };
+      read = subst (λ names. HasRead a c names status) (sym (take_all (stage_of status) (name ∷ []) (omega (arith, le))))
+          (own.read.last, λ other. checked_to_end a c g name (meant sources) status text own other);
+    })
 
 pub checked_done : (input : Input) (work : Work) (a b c : ShelfState) (g : RawGraph) (name : List ℕ) (sources : Option (List ℕ)) (r : Result Reply Status) → work ≡ check name sources →
     IsInputRead input a b g → IfOk r (λ reply. IsGiven reply.status) → IfOk r (λ reply. HasChecked b c g name (meant sources) reply.status (text_of reply.text)) →
@@ -187,6 +208,12 @@ check_refused (graph_file graph) work a b c g name sources status e le read (inr
       h.0,
       ((g, read.content), record { name = name; named = ap witness_name e; failed = FailedLoading-then a b c graph name le read.last h.1 }),
     ))
+check_refused (generated n pairs seed) work a b c g name sources status e le read (inr (inl h)) =
+    inr (inl (
+      which.Witness,
+      h.0,
+      ((g, ap (λ (h : RawGraph). Ok h) read.1), record { name = name; named = ap witness_name e; failed = subst (λ s. FailedLoading s c name) read.0 h.1 }),
+    ))
 check_refused input work a b c g name sources status e le read (inr (inr memory)) = inr (inr memory)
 
 -- ---- the statuses
@@ -199,6 +226,22 @@ written_cause words query a b out out' (ReadFault file) text taken may answer wh
 written_cause words query a b out out' Memory text taken may answer whole = absurd (omega (arith, may))
 written_cause words query a b out out' WriteFault text taken may answer whole = absurd (omega (arith, may))
 written_cause words query a b out out' status text taken may answer whole = record { query = query; taken = taken; text = text; answer = answer; whole = whole }
+
+-- an answer before anything is written
+refused_answer : (words : List (List ℕ)) (query : Asked) (a b : ShelfState) (out : SinkState) (status : Status) → asked words ≡ Some query → IsRefusal status → IsAnswer query a b status [] →
+    HasCause words a b out out status
+refused_answer words query a b out Usage taken may answer = absurd (omega (arith, may.0))
+refused_answer words query a b out (ReadFault file) taken may answer = absurd (omega (arith, may.0))
+refused_answer words query a b out Memory taken may answer = absurd (omega (arith, may.0))
+refused_answer words query a b out WriteFault taken may answer = absurd (omega (arith, may.1))
+refused_answer words query a b out status taken may answer = record { query = query; taken = taken; text = []; answer = answer; whole = Appended-none out out refl }
+
+-- a refusal has its cause
+pub refused_cause : (words : List (List ℕ)) (query : Asked) (a b : ShelfState) (out : SinkState) (status : Status) → asked words ≡ Some query → IsRefused query a b status →
+    HasCause words a b out out status
+refused_cause words query a b out status taken (inl (may, answer)) = refused_answer words query a b out status taken may answer
+refused_cause words query a b out status taken (inr (inl (file, is, failed))) = subst (HasCause words a b out out) (sym is) (query, taken, failed)
+refused_cause words query a b out status taken (inr (inr is)) = subst (HasCause words a b out out) (sym is) tt
 
 -- ---- where nothing goes wrong outside
 

@@ -1,6 +1,6 @@
 -- The file of a name, from the bytes that were loaded of it.
 use Rattle.std.proofs.Common.{◌≡◌, ℕ, ◌+◌, ◌<◌, ◌≤◌, List, [], length, take, Option, Some, None, Result, Ok, Err, IfSome, refl, sym, ◌∙◌, subst, ap, arith, inl, inr}
-use Rattle.std.specs.Option.{option_map}
+use Rattle.std.specs.Option.{option_map, unwrap_or}
 use Rattle.std.proofs.lemmas.Bool.{cases_lt, lt-ltb, cond-true}
 use Rattle.std.proofs.lemmas.List.{take_all, drop_all, length-take-le}
 use Rattle.jul_base.specs.declared.graphs.RawGraph.{RawGraph}
@@ -9,16 +9,17 @@ use Rattle.jul_base.specs.Shelves.{ShelfState, Told, contents, after_open, after
 use Rattle.jul_base.specs.Loading.{bytes_of, IsLoaded}
 use Rattle.jul_adj.specs.declared.faults.Fault.{Fault}
 use Rattle.jul_adj.specs.declared.faults.FaultKind.TheVariants as graph_kinds
-use Rattle.jul_adj.specs.declared.faults.ReadError.{ReadError}
-use Rattle.jul_adj.specs.declared.faults.ReadError.TheVariants as read_errors
-use Rattle.jul_adj.specs.Reading.{reads, Fails as GraphFails}
+use Rattle.jul_adj.specs.declared.faults.StreamError.{StreamError}
+use Rattle.jul_adj.specs.declared.faults.StreamError.TheVariants as stream_errors
+use Rattle.jul_adj.specs.Reading.{reads}
+use Rattle.jul_adj.specs.Streaming.{IsStreamed, IsUnread}
 use Rattle.jul_witness.specs.declared.faults.WitnessFault.{WitnessFault}
 use Rattle.jul_witness.specs.declared.faults.WitnessKind.TheVariants as witness_kinds
 use Rattle.jul_witness.specs.declared.witnesses.Witness.{Witness}
 use Rattle.jul_witness.specs.declared.faults.WitnessError.{WitnessError}
 use Rattle.jul_witness.specs.declared.faults.WitnessError.TheVariants as witness_errors
 use Rattle.jul_witness.specs.Reading.{reads_witness, Fails as WitnessFails}
-use Rattle.jul_cmd.specs.Statuses.{graph_refusal, witness_refusal}
+use Rattle.jul_cmd.specs.Statuses.{stream_refusal, witness_refusal}
 use Rattle.jul_cmd.specs.Files.{graph_of_file, witness_of_file, IsAtEnd, IsRead}
 use Rattle.jul_cmd.specs.Parts.{IsGraphUnread, IsWitnessUnread}
 
@@ -87,9 +88,21 @@ graph_is_no_fault g f e = cc
 same_fault : (f h : Fault) → ◌≡◌ {A = Result RawGraph Fault} (Err f) (Err h) → f ≡ h
 same_fault f h e = cc
 
-pub loaded_graph : (shelf shelf' : ShelfState) (name bytes : List ℕ) (said : Result RawGraph Fault) → IsLoaded shelf shelf' name bytes (MAX_BYTES + 1) → reads bytes MAX_BYTES ≡ said →
-    IsRead graph_of_file shelf shelf' name said
-loaded_graph shelf shelf' name bytes said loaded e = loaded_file graph_of_file long_graph graph_tells_length shelf shelf' name bytes said loaded (graph_says bytes said e)
+-- no byte is left of a file that isn't too long
+streamed_end : (o p : Option Told) (name file : List ℕ) → IfSome o (λ t. contents t.files name ≡ Some file) → p ≡ option_map (λ t. after_read (MAX_BYTES + 1) (after_open name t)) o →
+    length file ≤ MAX_BYTES → IfSome p (λ t. t.left ≡ [])
+streamed_end None p name file there rest short = subst (λ o. IfSome o (λ t. t.left ≡ [])) (sym rest) tt
+streamed_end (Some t) p name file there rest short =
+    let is : bytes_of t name ≡ file = ap (λ c. unwrap_or c []) there in
+    subst (λ o. IfSome o (λ t. t.left ≡ [])) (sym rest) (drop_all (MAX_BYTES + 1) (bytes_of t name) (omega (arith, short, ap (λ (b : List ℕ). length b) is)))
+
+-- a graph file that was read from the shelf
+pub streamed_graph : (shelf shelf' : ShelfState) (name : List ℕ) (said : Result RawGraph Fault) → IsStreamed shelf shelf' name MAX_BYTES said → IsRead graph_of_file shelf shelf' name said
+streamed_graph shelf shelf' name said h = record {
+  content = record { file = h.file; there = h.there; is = graph_says h.file said h.is };
+  last = opened_last shelf.told shelf'.told name (MAX_BYTES + 1) h.rest;
+  to_end = streamed_end shelf.told shelf'.told name h.file h.there h.rest;
+}
 
 pub graph_to_end : (shelf shelf' : ShelfState) (name : List ℕ) (g : RawGraph) → IsRead graph_of_file shelf shelf' name (Ok g) → IsAtEnd shelf'
 graph_to_end shelf shelf' name g read = read_to_end graph_of_file long_graph graph_tells_length shelf shelf' name (Ok g) read (graph_is_no_fault g long_graph)
@@ -98,12 +111,11 @@ pub fault_to_end : (shelf shelf' : ShelfState) (name : List ℕ) (f : Fault) →
 fault_to_end shelf shelf' name f read other =
     read_to_end graph_of_file long_graph graph_tells_length shelf shelf' name (Err f) read (λ e. other (ap (λ (x : Fault). x.kind) (same_fault f long_graph e)))
 
--- a graph that wasn't read, after its file was loaded
-pub graph_unread : (shelf shelf' : ShelfState) (name text bytes : List ℕ) (e : ReadError) → text ≡ bytes → IsLoaded shelf shelf' name bytes (MAX_BYTES + 1) → GraphFails e (reads text MAX_BYTES) →
-    IsGraphUnread shelf shelf' name (graph_refusal e)
-graph_unread shelf shelf' name text bytes read_errors.Memory same loaded fails = inr (inr refl)
-graph_unread shelf shelf' name text bytes (read_errors.Bad fault) same loaded fails =
-    inl (record { fault = fault; read = loaded_graph shelf shelf' name bytes (Err fault) loaded (ap (λ b. reads b MAX_BYTES) (sym same) ∙ fails); is = refl })
+-- a graph that wasn't read
+pub graph_unread : (shelf shelf' : ShelfState) (name : List ℕ) (e : StreamError) → IsUnread shelf shelf' name MAX_BYTES e → IsGraphUnread shelf shelf' name (stream_refusal e)
+graph_unread shelf shelf' name stream_errors.Failed failed = inr (inl (refl, failed))
+graph_unread shelf shelf' name (stream_errors.Bad fault) streamed = inl (record { fault = fault; read = streamed_graph shelf shelf' name (Err fault) streamed; is = refl })
+graph_unread shelf shelf' name stream_errors.Memory stopped = inr (inr refl)
 
 -- ---- a witness file
 

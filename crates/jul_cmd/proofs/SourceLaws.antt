@@ -5,7 +5,7 @@ use Rattle.std.proofs.lemmas.Bool.{cases_lt, cond-true, cond-false, lt-ltb, le-l
 use Rattle.jul_cmd.specs.declared.statuses.Status.{Status}
 use Rattle.jul_cmd.specs.declared.statuses.Status.TheVariants.{SourceRange}
 use Rattle.jul_cmd.specs.Statuses.{stage_of}
-use Rattle.jul_cmd.specs.Solving.{refusal_of_sources}
+use Rattle.jul_cmd.specs.Suited.{refusal_of_sources}
 
 -- a source that is a vertex changes nothing
 pub source_inside : (n : ℕ) (xs : List ℕ) (i : ℕ) → i < length xs → get_or xs i 0 < n → refusal_of_sources n (drop i xs) ≡ refusal_of_sources n (drop (suc i) xs)

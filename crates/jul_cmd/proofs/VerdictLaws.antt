@@ -17,7 +17,7 @@ use Rattle.jul_check.specs.DistanceChecks.{distances_verdict}
 use Rattle.jul_check.specs.CoverChecks.{cover_verdict}
 use Rattle.jul_cmd.specs.declared.statuses.Status.{Status}
 use Rattle.jul_cmd.specs.declared.statuses.Status.TheVariants.{SizeDiffers}
-use Rattle.jul_cmd.specs.Solving.{refusal_of_sources}
+use Rattle.jul_cmd.specs.Suited.{refusal_of_sources}
 use Rattle.jul_cmd.specs.Checking.{size_of, unless, judged, judged_file}
 use Rattle.jul_cmd.specs.Statuses.{stage_of}
 use Rattle.jul_cmd.specs.Parts.{Judges}

@@ -5,14 +5,16 @@ use Rattle.jul_base.specs.Shelves.{ShelfState}
 use Rattle.jul_adj.specs.declared.faults.Fault.{Fault}
 use Rattle.jul_cmd.specs.declared.statuses.Status.{Status}
 use Rattle.jul_cmd.specs.declared.statuses.Status.TheVariants.{GraphFault}
-use Rattle.jul_cmd.specs.Queries.{Input, graph_file, Work, solve, check, meant, Asked}
+use Rattle.jul_query.specs.Queries.{Input, graph_file, generated, Work, solve, check, meant, Asked}
+use Rattle.jul_adj.specs.Generated.{generated as generated_graph}
 use Rattle.jul_cmd.specs.Files.{graph_of_file, Says}
 use Rattle.jul_cmd.specs.Solving.{IsSolved}
 use Rattle.jul_cmd.specs.Checking.{IsChecked}
 
--- what an input says: the graph that it has, or the first fault of its file
+-- what an input says: the graph that it has, or the first fault of its file. A generated graph has none
 abbrev pub InputSays : ShelfState → Input → Result RawGraph Fault → Type 0
 InputSays shelf (graph_file name) graph = Says graph_of_file shelf name graph
+InputSays shelf (generated n pairs seed) graph = graph ≡ Ok (generated_graph n pairs seed)
 
 -- what is said of a graph
 abbrev pub WorkAnswer : ShelfState → RawGraph → Work → Status → List ℕ → Type 0

@@ -17,7 +17,7 @@ use Rattle.jul_check.specs.CoverChecks.{cover_verdict, HoldsEveryElement}
 use Rattle.jul_cmd.specs.declared.statuses.Status.{Status}
 use Rattle.jul_cmd.specs.declared.statuses.Status.TheVariants.{Done, No, WitnessFault as FaultOfWitness, SizeDiffers}
 use Rattle.jul_cmd.specs.Files.{witness_of_file, Says}
-use Rattle.jul_cmd.specs.Solving.{refusal_of_sources}
+use Rattle.jul_cmd.specs.Suited.{refusal_of_sources}
 
 -- the number of vertices of a witness
 abbrev pub size_of : Witness → ℕ

@@ -1,10 +1,9 @@
 pub mod Statuses
 pub mod Queries
-pub mod Words
-pub mod Asking
 pub mod Files
-pub mod Solving
+pub mod Suited
 pub mod Checking
+pub mod Solving
 pub mod Answers
 pub mod Outcomes
 pub mod Parts

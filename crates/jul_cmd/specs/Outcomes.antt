@@ -11,8 +11,9 @@ use Rattle.jul_cmd.specs.declared.statuses.Status.TheVariants.{Usage, GraphFault
 use Rattle.jul_cmd.specs.declared.statuses.Which.{Which}
 use Rattle.jul_cmd.specs.declared.statuses.Which.TheVariants.{Graph, Witness}
 use Rattle.jul_cmd.specs.Statuses.{stage_of}
-use Rattle.jul_cmd.specs.Queries.{Input, Asked, name_of, read_in_order}
-use Rattle.jul_cmd.specs.Words.{asked}
+use Rattle.jul_query.specs.Queries.{Input, Asked}
+use Rattle.jul_cmd.specs.Queries.{name_of, read_in_order}
+use Rattle.jul_query.specs.Words.{asked}
 use Rattle.jul_cmd.specs.Files.{IsOpenedLast, IsAtEnd}
 use Rattle.jul_cmd.specs.Answers.{InputSays, Answer}
 

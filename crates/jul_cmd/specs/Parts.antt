@@ -5,18 +5,20 @@ use Rattle.jul_base.specs.Shelves.{ShelfState}
 use Rattle.jul_base.specs.Loading.{FailedLoading}
 use Rattle.jul_witness.specs.declared.faults.WitnessFault.{WitnessFault as FaultOfWitness}
 use Rattle.jul_witness.specs.declared.witnesses.Witness.{Witness as AnyWitness}
-use Rattle.jul_witness.specs.Texts.{bare_text}
+use Rattle.jul_witness.specs.Lawful.{IsLawful}
+use Rattle.jul_witness.specs.Texts.{bare_text, witness_text}
 use Rattle.jul_check.specs.declared.verdicts.Verdict.{Verdict}
 use Rattle.jul_cmd.specs.declared.statuses.Status.{Status}
 use Rattle.jul_cmd.specs.declared.statuses.Status.TheVariants.{GraphFault, WitnessFault, ReadFault, Memory}
 use Rattle.jul_cmd.specs.declared.statuses.Which.{Which}
 use Rattle.jul_cmd.specs.declared.statuses.Which.TheVariants.{Graph, Witness}
 use Rattle.jul_cmd.specs.declared.replies.Text.{Text}
-use Rattle.jul_cmd.specs.declared.replies.Text.TheVariants.{Bare, Line}
+use Rattle.jul_cmd.specs.declared.replies.Text.TheVariants.{Bare, Whole, Line}
 use Rattle.jul_cmd.specs.Statuses.{stage_of}
-use Rattle.jul_cmd.specs.Queries.{Input, graph_file, Problem, Asked}
+use Rattle.jul_query.specs.Queries.{Input, graph_file, generated, Problem, Asked}
+use Rattle.jul_adj.specs.Generated.{generated as generated_graph}
 use Rattle.jul_cmd.specs.Files.{graph_of_file, witness_of_file, IsRead}
-use Rattle.jul_cmd.specs.Solving.{IsUnsuited}
+use Rattle.jul_cmd.specs.Suited.{IsUnsuited}
 use Rattle.jul_cmd.specs.Checking.{IsJudged}
 use Rattle.jul_cmd.specs.Outcomes.{IsAnswer, FailedReading}
 
@@ -54,13 +56,15 @@ IsGraphUnread shelf shelf' name status = FaultyFile graph_of_file (λ fault. Gra
 abbrev pub IsWitnessUnread : ShelfState → ShelfState → List ℕ → Status → Type 0
 IsWitnessUnread shelf shelf' name status = FaultyFile witness_of_file (λ fault. WitnessFault fault) shelf shelf' name status ⊎ IsUnloaded Witness shelf shelf' name status
 
--- the graph of an input was read
+-- the graph of an input was read, or made
 abbrev pub IsInputRead : Input → ShelfState → ShelfState → RawGraph → Type 0
 IsInputRead (graph_file name) shelf shelf' g = IsRead graph_of_file shelf shelf' name (Ok g)
+IsInputRead (generated n pairs seed) shelf shelf' g = (shelf' ≡ shelf) × (g ≡ generated_graph n pairs seed)
 
--- the graph of an input could not be read
+-- the graph of an input could not be read, or made
 abbrev pub IsInputUnread : Input → ShelfState → ShelfState → Status → Type 0
 IsInputUnread (graph_file name) shelf shelf' status = IsGraphUnread shelf shelf' name status
+IsInputUnread (generated n pairs seed) shelf shelf' status = status ≡ Memory
 
 -- ---- the tasks
 
@@ -88,7 +92,14 @@ IsUnchecked shelf shelf' g name sources status =
 
 abbrev pub text_of : Text → List ℕ
 text_of (Bare column) = bare_text column
+text_of (Whole result) = witness_text result
 text_of (Line line) = line
+
+-- the columns of a result can be written
+abbrev pub IsWritable : Text → Type 0
+IsWritable (Bare column) = Unit {0}
+IsWritable (Whole result) = IsLawful result
+IsWritable (Line line) = Unit {0}
 
 -- a refusal before anything is written
 abbrev pub IsRefused : Asked → ShelfState → ShelfState → Status → Type 0

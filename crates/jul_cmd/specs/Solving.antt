@@ -1,31 +1,76 @@
 -- What is said of a graph where a problem is to be solved: a line for each problem, and a line for each form.
-use Rattle.std.specs.Prelude.{◌≡◌, ◌⊎◌, ℕ, List, [], ◌∷◌, Option, Some, None, nat_lt, if◌then◌else◌}
+use Rattle.std.specs.Prelude.{◌≡◌, ◌⊎◌, ℕ, List, [], ◌∷◌, codes}
 use Rattle.jul_base.specs.declared.graphs.RawGraph.{RawGraph}
-use Rattle.jul_base.specs.Graph.{vertices}
+use Rattle.jul_base.specs.declared.results.Cover.{Cover}
+use Rattle.jul_base.specs.Numbers.{IsColumn}
+use Rattle.jul_base.specs.Sets.{sets_of}
+use Rattle.jul_base.specs.CoverRounds.{IsCover}
+use Rattle.jul_cover.specs.CoverBounds.{IsSmallCover}
+use Rattle.jul_base.specs.Graph.{vertices, places}
 use Rattle.jul_base.specs.Distances.{AreDistances}
-use Rattle.jul_witness.specs.Texts.{bare_text}
+use Rattle.jul_base.specs.Trees.{AreTree}
+use Rattle.jul_base.specs.Coreness.{IsCoreness}
+use Rattle.jul_base.specs.Levels.{IsLevel}
+use Rattle.jul_witness.specs.declared.witnesses.Witness.{Witness}
+use Rattle.jul_witness.specs.declared.witnesses.Witness.TheVariants as results
+use Rattle.jul_witness.specs.Texts.{bare_text, witness_text}
+use Rattle.jul_witness.specs.Summaries.{distances_summary, cores_summary, cover_summary}
 use Rattle.jul_cmd.specs.declared.statuses.Status.{Status}
-use Rattle.jul_cmd.specs.declared.statuses.Status.TheVariants.{Done, SourceRange}
-use Rattle.jul_cmd.specs.Queries.{Problem, distances, Form, bare}
+use Rattle.jul_cmd.specs.declared.statuses.Status.TheVariants.{Done}
+use Rattle.jul_query.specs.Queries.{Problem, distances, cores, cover, Form, whole, bare, summary}
+use Rattle.jul_cmd.specs.Suited.{IsUnsuited, IsSuited}
+use Rattle.jul_cmd.specs.Files.{witness_of_file}
+use Rattle.jul_cmd.specs.Checking.{judged_file, IsTold}
 
--- the refusal of the first source that isn't below n, if there is one
-abbrev pub refusal_of_sources : ℕ → List ℕ → Option Status
-refusal_of_sources n [] = None
-refusal_of_sources n (s ∷ ss) = if nat_lt s n then refusal_of_sources n ss else Some (SourceRange s n)
-
--- the graph isn't suited to the problem, and the status says why
-abbrev pub IsUnsuited : RawGraph → Problem → Status → Type 0
-IsUnsuited g (distances sources) status = refusal_of_sources (vertices g) sources ≡ Some status
-
-abbrev pub IsSuited : RawGraph → Problem → Type 0
-IsSuited g problem = (status : Status) → IsUnsuited g problem status → ⊥
+-- the columns are those of the cover's rounds, and few sets are chosen: at most 4 * (f + 1) times as many as any list has that
+-- holds every element, where f is the floor of the base-2 logarithm of the greatest size
+pub record IsFoundCover (g : RawGraph) (c : Cover) : Type 0 where
+  pub rounds : IsCover (sets_of g) c
+  pub small : IsSmallCover (sets_of g) c.round
 
 -- the column has for each vertex what the problem asks
 abbrev pub AreValues : RawGraph → Problem → List ℕ → Type 0
 AreValues g (distances sources) column = AreDistances g sources column
+AreValues g cores column = IsColumn (vertices g) (IsCoreness g) column
+AreValues g cover column = (c : Cover) × IsFoundCover g c × (column ≡ c.by)
+
+-- the columns have for each vertex what the problem asks, and the witness that bears it out
+abbrev pub IsResult : RawGraph → Problem → Witness → Type 0
+IsResult g (distances sources) (results.Distances d) = AreTree g sources d.dist d.hops d.parent
+IsResult g cores (results.Cores c) = IsColumn (vertices g) (IsCoreness g) c.core × IsColumn (vertices g) (IsLevel g) c.level
+IsResult g cover (results.Cover c) = IsFoundCover g c
+IsResult g problem result = ⊥
+
+-- the sources that are handed to a check of the result
+abbrev pub sources_of : Problem → List ℕ
+sources_of (distances sources) = sources
+sources_of cores = 0 ∷ []
+sources_of cover = 0 ∷ []
+
+-- a check of this text on the same graph, with the same sources, says yes
+abbrev pub IsAccepted : RawGraph → Problem → List ℕ → Type 0
+IsAccepted g problem text = IsTold (judged_file g (sources_of problem) (witness_of_file text)) Done (codes "yes\n")
+
+-- the whole text of a result, which a check accepts
+pub record IsWholeText (g : RawGraph) (problem : Problem) (text : List ℕ) : Type 0 where
+  pub result : Witness
+  pub is_result : IsResult g problem result
+  pub is_text : text ≡ witness_text result
+  pub accepted : IsAccepted g problem text
+
+-- the line sums up what the problem asks, behind the name of the task
+abbrev pub IsSummary : RawGraph → Problem → List ℕ → List ℕ → Type 0
+IsSummary g (distances sources) task line =
+    (dist : List ℕ) × AreDistances g sources dist × (line ≡ distances_summary task (vertices g) (places g) dist)
+IsSummary g cores task line =
+    (core : List ℕ) × IsColumn (vertices g) (IsCoreness g) core × (line ≡ cores_summary task (vertices g) (places g) core)
+IsSummary g cover task line =
+    (c : Cover) × IsFoundCover g c × (line ≡ cover_summary task (vertices g) (places g) c.round c.by)
 
 -- the text has what the problem asks, in the form
 abbrev pub IsText : RawGraph → Problem → Form → List ℕ → Type 0
+IsText g problem whole text = IsWholeText g problem text
+IsText g problem (summary task) text = IsSummary g problem task text
 IsText g problem bare text = (column : List ℕ) × AreValues g problem column × (text ≡ bare_text column)
 
 -- the problem was solved

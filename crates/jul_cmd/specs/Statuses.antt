@@ -1,11 +1,11 @@
 -- The exit code, the stage and the message of each status.
 use Rattle.std.specs.Prelude.{ℕ, ◌≤◌, List, [], ◌++◌, codes, decimal}
-use Rattle.jul_adj.specs.declared.faults.ReadError.{ReadError}
-use Rattle.jul_adj.specs.declared.faults.ReadError.TheVariants as read_errors
+use Rattle.jul_adj.specs.declared.faults.StreamError.{StreamError}
+use Rattle.jul_adj.specs.declared.faults.StreamError.TheVariants as stream_errors
 use Rattle.jul_witness.specs.declared.faults.WitnessError.{WitnessError}
 use Rattle.jul_witness.specs.declared.faults.WitnessError.TheVariants as witness_errors
 use Rattle.jul_cmd.specs.declared.statuses.Status.{Status}
-use Rattle.jul_cmd.specs.declared.statuses.Status.TheVariants.{Done, No, Usage, GraphFault, WitnessFault, SourceRange, SizeDiffers, ReadFault, WriteFault, Memory}
+use Rattle.jul_cmd.specs.declared.statuses.Status.TheVariants.{Done, No, Usage, GraphFault, WitnessFault, Asymmetric, SourceRange, SizeDiffers, ReadFault, WriteFault, Memory}
 use Rattle.jul_cmd.specs.declared.statuses.Which.TheVariants.{Graph, Witness}
 use Rattle.jul_adj.specs.Names.{kind_name as graph_kind_name}
 use Rattle.jul_witness.specs.Names.{kind_name as witness_kind_name}
@@ -16,6 +16,7 @@ code_of (No vertex reason) = 1
 code_of Usage = 2
 code_of (GraphFault f) = 3
 code_of (WitnessFault f) = 3
+code_of (Asymmetric place) = 4
 code_of (SourceRange source n) = 4
 code_of (SizeDiffers witness graph) = 4
 code_of (ReadFault file) = 5
@@ -23,7 +24,7 @@ code_of WriteFault = 6
 code_of Memory = 7
 
 -- Where the status stands in the one order of answers: 1 once the graph file was read, 2 once the witness file was, 3 at
--- the sizes, 4 at the sources, 5 once the text was written, 6 where it could not be; 0 for what no file decides.
+-- the sizes, 4 at the sources or the symmetry, 5 once the text was written, 6 where it could not be; 0 for what no file decides.
 abbrev pub stage_of : Status → ℕ
 stage_of Usage = 0
 stage_of (ReadFault file) = 0
@@ -31,6 +32,7 @@ stage_of Memory = 0
 stage_of (GraphFault f) = 1
 stage_of (WitnessFault f) = 2
 stage_of (SizeDiffers witness graph) = 3
+stage_of (Asymmetric place) = 4
 stage_of (SourceRange source n) = 4
 stage_of Done = 5
 stage_of (No vertex reason) = 5
@@ -41,9 +43,10 @@ abbrev pub MayWrite : Status → Type 0
 MayWrite status = 5 ≤ stage_of status
 
 -- the status of a graph that wasn't read
-abbrev pub graph_refusal : ReadError → Status
-graph_refusal (read_errors.Bad fault) = GraphFault fault
-graph_refusal read_errors.Memory = Memory
+abbrev pub stream_refusal : StreamError → Status
+stream_refusal stream_errors.Failed = ReadFault Graph
+stream_refusal (stream_errors.Bad fault) = GraphFault fault
+stream_refusal stream_errors.Memory = Memory
 
 -- the status of a witness that wasn't read
 abbrev pub witness_refusal : WitnessError → Status
@@ -64,6 +67,7 @@ message_of (No vertex reason) = []
 message_of Usage = usage_text
 message_of (GraphFault f) = fault_text (codes "graph") (graph_kind_name f.kind) f.token f.at
 message_of (WitnessFault f) = fault_text (codes "witness") (witness_kind_name f.kind) f.token f.at
+message_of (Asymmetric place) = codes "asymmetric at place " ++ decimal place ++ codes "\n"
 message_of (SourceRange source n) = codes "source " ++ decimal source ++ codes " is not below " ++ decimal n ++ codes "\n"
 message_of (SizeDiffers witness graph) = codes "witness size " ++ decimal witness ++ codes ", graph size " ++ decimal graph ++ codes "\n"
 message_of (ReadFault Graph) = codes "read fault: graph\n"

@@ -3,10 +3,10 @@ ghost use Rattle.std.specs.Prelude.{◌≡◌, [], ◌∷◌, Ok, IfOk, IfErr};
 ghost use Rattle.jul_base.specs.Graph.{vertices};
 ghost use Rattle.jul_witness.specs.Lawful.{IsLawful};
 ghost use Rattle.jul_check.specs.declared.verdicts.Verdict.TheVariants.{Yes};
-ghost use Rattle.jul_cmd.specs.Queries.{meant};
-ghost use Rattle.jul_cmd.specs.Asking.{named_sources};
+ghost use Rattle.jul_query.specs.Queries.{meant};
+ghost use Rattle.jul_query.specs.Asking.{named_sources};
 ghost use Rattle.jul_cmd.specs.Checking.{size_of, judged, judged_file, IsBorneOut, verdict_status, verdict_text};
-ghost use Rattle.jul_cmd.specs.Parts.{IsGiven, Judges, HasChecked, IsUnchecked, text_of};
+ghost use Rattle.jul_cmd.specs.Parts.{IsGiven, Judges, HasChecked, IsUnchecked, IsWritable, text_of};
 
 use crate::lines::Line;
 use crate::loading::load_witness;
@@ -91,6 +91,7 @@ fn verdict_line(verdict: Verdict) -> Line
 fn verdict_reply(verdict: Verdict) -> Reply
     ensures status { result.status ≡ verdict_status verdict }
     ensures text { text_of result.text ≡ verdict_text verdict }
+    ensures writable { IsWritable result.text }
 {
     Reply {
         status: match verdict {
@@ -113,6 +114,7 @@ pub fn check<F: Shelf>(
     ensures found { IfOk result (λ reply. HasChecked (F.state files.old) (F.state files.new)
         rows.now name.now (meant (named_sources source)) reply.status (text_of reply.text)) }
     ensures given { IfOk result (λ reply. IsGiven reply.status) }
+    ensures writable { IfOk result (λ reply. IsWritable reply.text) }
     ensures refused { IfErr result (IsUnchecked (F.state files.old) (F.state files.new)
         rows.now name.now (meant (named_sources source))) }
 {

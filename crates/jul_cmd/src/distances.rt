@@ -1,26 +1,34 @@
-//! The tasks `wbfs` and `delta`: least distances from a source.
-ghost use Rattle.std.specs.Prelude.{IfOk, IfErr, OnOk, [], ◌∷◌};
-ghost use Rattle.jul_cmd.specs.Queries.{distances};
-ghost use Rattle.jul_cmd.specs.Solving.{IsSuited, AreValues};
+//! The tasks `wbfs` and `delta`: least distances from a source, with the hops and the parents that bear them out.
+ghost use Rattle.std.specs.Prelude.{◌≤◌, IfOk, IfErr, OnOk, [], ◌∷◌};
+ghost use Rattle.jul_base.specs.Sources.{AreSources};
+ghost use Rattle.jul_base.specs.Graph.{vertices};
+ghost use Rattle.jul_witness.specs.Lawful.{AreLawfulDistances};
+ghost use Rattle.jul_witness.specs.declared.witnesses.Witness.TheVariants as results;
+ghost use Rattle.jul_query.specs.Queries.{distances};
+ghost use Rattle.jul_cmd.specs.Suited.{IsSuited};
+ghost use Rattle.jul_cmd.specs.Solving.{AreValues, IsResult};
 ghost use Rattle.jul_cmd.specs.Parts.{IsUnsolved};
 
-use crate::resources::{OPEN, Resources};
+use crate::resources::Resources;
 use crate::sources::check_sources;
 use crate::statuses::Status;
-use jul_base::{Column, Gate};
+use jul_base::{Column, Distances, Gate, MAX_N};
 use jul_dist::least_distances;
 use jul_rows::Rows;
+use jul_tree::hops_and_parents;
 use std::thread::Threads;
 
-/// The least distances from a source, or why there are none. `delta` is the width of a bucket of distances; 0
-/// counts as 1.
+/// The least distances from a source, or why there are none. `delta` is the width of a bucket of distances.
 pub fn find_distances<R: Threads + Sync, G: Gate>(
     resources: &Resources<'_, '_, R, G>,
     rows: &Rows,
     source: u32,
     delta: u32,
 ) -> Result<Column, Status>
+    requires { 1 ≤ delta }
+
     ensures suited { OnOk result (IsSuited rows.now (distances (source ∷ []))) }
+    ensures sources { OnOk result (AreSources (vertices rows.now) (source ∷ [])) }
     ensures found { IfOk result (AreValues rows.now (distances (source ∷ []))) }
     ensures refused { IfErr result (IsUnsolved rows.now (distances (source ∷ []))) }
 {
@@ -33,8 +41,36 @@ pub fn find_distances<R: Threads + Sync, G: Gate>(
         rows,
         None,
         &sources,
-        u64::from(delta).max(1),
-        OPEN,
+        u64::from(delta),
+        resources.open_buckets,
     )?;
     Ok(column)
+}
+
+/// The least distances from a source with hops and parents, or why there are none.
+pub fn find_tree<R: Threads + Sync, G: Gate>(
+    resources: &Resources<'_, '_, R, G>,
+    rows: &Rows,
+    source: u32,
+    delta: u32,
+) -> Result<Distances, Status>
+    requires { 1 ≤ delta }
+
+    ensures suited { OnOk result (IsSuited rows.now (distances (source ∷ []))) }
+    ensures whole { IfOk result (λ found. IsResult rows.now (distances (source ∷ [])) (results.Distances found)) }
+    ensures lawful { IfOk result AreLawfulDistances }
+    ensures refused { IfErr result (IsUnsolved rows.now (distances (source ∷ []))) }
+{
+    prove!(rows.n() <= MAX_N);
+    let dist = find_distances(resources, rows, source, delta)?;
+    let (hops, parent) = hops_and_parents(
+        resources.rt,
+        resources.alloc,
+        &resources.team,
+        rows,
+        None,
+        &[source],
+        dist.as_slice(),
+    )?;
+    Ok(Distances { dist, hops, parent })
 }

@@ -5,18 +5,19 @@
 #![tactic(auto)]
 
 mod checking;
+mod cores;
+mod covers;
 mod distances;
 mod lines;
 mod loading;
 mod messages;
-mod queries;
 mod replies;
 mod resources;
 mod running;
 mod solving;
 mod sources;
 mod statuses;
-mod words;
+mod summaries;
 
 pub use running::run;
 pub use statuses::{Status, Which};

@@ -3,58 +3,82 @@ ghost use Rattle.std.specs.Prelude.{◌+◌, ◌≤◌, length, Ok, IfOk, IfErr}
 ghost use Rattle.jul_base.specs.declared.limits.TheConstants.{MAX_BYTES};
 ghost use Rattle.jul_base.specs.Loading.{IsLoaded};
 ghost use Rattle.jul_witness.specs.Lawful.{IsLawful};
-ghost use Rattle.jul_cmd.specs.Asking.{input_of};
+ghost use Rattle.jul_query.specs.Asking.{input_of};
+ghost use Rattle.jul_query.specs.Ranges.{IsInputInRange};
+ghost use Rattle.jul_cmd.specs.declared.statuses.Which.TheVariants as which;
 ghost use Rattle.jul_cmd.specs.Files.{graph_of_file, witness_of_file, IsRead};
 ghost use Rattle.jul_cmd.specs.Parts.{IsUnloaded, IsGraphUnread, IsWitnessUnread, IsInputRead, IsInputUnread};
 
-use crate::queries::Input;
+use crate::resources::Resources;
 use crate::statuses::{Status, Which};
-use jul_adj::read_graph;
-use jul_base::{LoadError, MAX_BYTES, Shelf, load_all};
+use jul_adj::{generate, read_stream};
+use jul_base::{Gate, LoadError, MAX_BYTES, Shelf, load_all};
+use jul_query::Input;
 use jul_rows::Rows;
 use jul_witness::{Witness, read_witness};
 use std::alloc::Global;
+use std::thread::Threads;
 
-// The bytes of the file of this name.
-fn load_text<F: Shelf>(
-    alloc: Global,
-    name: &str,
-    which: Which,
-    files: &mut F,
-) -> Result<Vec<u8>, Status>
+/// The most bytes of a graph file that are held at a time.
+const BLOCK: usize = 1_048_576;
+
+// The bytes of the witness file of this name.
+fn load_text<F: Shelf>(alloc: Global, name: &str, files: &mut F) -> Result<Vec<u8>, Status>
     ensures ok { IfOk result (λ bytes.
         IsLoaded (F.state files.old) (F.state files.new) name.now bytes.items (MAX_BYTES + 1)) }
     ensures short { IfOk result (λ bytes. length bytes.items ≤ MAX_BYTES + 1) }
-    ensures refused { IfErr result (IsUnloaded which (F.state files.old) (F.state files.new) name.now) }
-    ensures faults { (F.state files.old).faults ≤ (F.state files.new).faults }
+    ensures refused { IfErr result (IsUnloaded which.Witness (F.state files.old) (F.state files.new) name.now) }
 {
     match load_all(alloc, files, name, MAX_BYTES) {
         Ok(bytes) => Ok(bytes),
-        Err(LoadError::Failed) => Err(Status::ReadFault { file: which }),
+        Err(LoadError::Failed) => Err(Status::ReadFault {
+            file: Which::Witness,
+        }),
         Err(LoadError::Memory) => Err(Status::Memory),
     }
 }
 
-// The rows of the graph in the file of this name, or why there is none. The text of the file is given back.
-fn load_graph<F: Shelf>(alloc: Global, name: &str, files: &mut F) -> Result<Rows, Status>
+// The rows of the graph in the file of this name, or why there is none. The text is read in blocks, by workers.
+fn load_graph<R: Threads + Sync, G: Gate, F: Shelf>(
+    resources: &Resources<'_, '_, R, G>,
+    name: &str,
+    files: &mut F,
+) -> Result<Rows, Status>
     ensures rows { IfOk result (λ rows.
         IsRead graph_of_file (F.state files.old) (F.state files.new) name.now (Ok rows)) }
     ensures refused { IfErr result (IsGraphUnread (F.state files.old) (F.state files.new) name.now) }
     ensures faults { (F.state files.old).faults ≤ (F.state files.new).faults }
 {
-    let bytes = load_text(alloc, name, Which::Graph, files)?;
-    let graph = read_graph(alloc, bytes.as_slice(), MAX_BYTES)?;
+    let graph = read_stream(
+        resources.rt,
+        resources.alloc,
+        &resources.team,
+        files,
+        name,
+        MAX_BYTES,
+        BLOCK,
+    )?;
     Ok(Rows::of(graph))
 }
 
 /// The rows of the graph that an input stands for, or why there is none.
-pub fn load_input<F: Shelf>(alloc: Global, input: Input<'_>, files: &mut F) -> Result<Rows, Status>
+pub fn load_input<R: Threads + Sync, G: Gate, F: Shelf>(
+    resources: &Resources<'_, '_, R, G>,
+    input: Input<'_>,
+    files: &mut F,
+) -> Result<Rows, Status>
+    requires { IsInputInRange input }
+
     ensures rows { IfOk result (IsInputRead (input_of input.entry) (F.state files.old) (F.state files.new)) }
     ensures refused { IfErr result (IsInputUnread (input_of input.entry) (F.state files.old) (F.state files.new)) }
     ensures faults { (F.state files.old).faults ≤ (F.state files.new).faults }
 {
     match input {
-        Input::GraphFile(name) => load_graph(alloc, name, files),
+        Input::GraphFile(name) => load_graph(resources, name, files),
+        Input::Generated { n, pairs, seed } => {
+            let graph = generate(resources.alloc, n, pairs, seed)?;
+            Ok(Rows::of(graph))
+        }
     }
 }
 
@@ -65,6 +89,6 @@ pub fn load_witness<F: Shelf>(alloc: Global, name: &str, files: &mut F) -> Resul
     ensures lawful { IfOk result IsLawful }
     ensures refused { IfErr result (IsWitnessUnread (F.state files.old) (F.state files.new) name.now) }
 {
-    let bytes = load_text(alloc, name, Which::Witness, files)?;
+    let bytes = load_text(alloc, name, files)?;
     Ok(read_witness(alloc, bytes.as_slice(), MAX_BYTES)?)
 }

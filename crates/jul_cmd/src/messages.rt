@@ -2,7 +2,7 @@
 ghost use Rattle.std.specs.Prelude.{◌≡◌, ◌≤◌, length};
 ghost use Rattle.jul_cmd.specs.Statuses.{fault_text, message_of};
 ghost use Rattle.jul_cmd.specs.Outcomes.{WroteOrFailed};
-ghost use Rattle.jul_cmd.specs.declared.statuses.Status.TheVariants.{SourceRange, SizeDiffers};
+ghost use Rattle.jul_cmd.specs.declared.statuses.Status.TheVariants.{Asymmetric, SourceRange, SizeDiffers};
 
 use crate::lines::Line;
 use crate::statuses::{Status, Which};
@@ -24,6 +24,15 @@ fn fault_line(file: &[u8], kind: &[u8], token: u64, at: u64) -> Line
     line.put_number(token);
     line.put(b", byte ");
     line.put_number(at);
+    line.put(b"\n");
+    line
+}
+
+fn asymmetric_line(place: u32) -> Line
+    ensures { result ≡ message_of (Asymmetric place) }
+{
+    let mut line = Line::of(b"asymmetric at place ");
+    line.put_number(u64::from(place));
     line.put(b"\n");
     line
 }
@@ -70,6 +79,7 @@ fn message(status: &Status) -> Line
             fault.token,
             fault.at,
         ),
+        Status::Asymmetric { place } => asymmetric_line(place),
         Status::SourceRange { source, n } => source_range_line(source, n),
         Status::SizeDiffers { witness, graph } => sizes_line(witness, graph),
         Status::ReadFault { file: Which::Graph } => Line::of(b"read fault: graph\n"),

@@ -5,13 +5,15 @@ ghost use Rattle.jul_base.specs.Sinks.{Appended, FailedWriting};
 use crate::lines::Line;
 use crate::statuses::Status;
 use jul_base::{Column, Failed, Sink, write_whole};
-use jul_witness::write_bare;
+use jul_witness::{Witness, write_bare};
 
 /// The text of an answer.
 #[derive(Drop)]
 pub enum Text {
     /// A column, as a bare text.
     Bare(Column),
+    /// All columns of a result.
+    Whole(Witness),
     /// One line.
     Line(Line),
 }
@@ -26,15 +28,18 @@ pub struct Reply {
 }
 
 impl Text {
-    ghost use Rattle.jul_cmd.specs.Parts.{text_of};
+    ghost use Rattle.jul_cmd.specs.Parts.{text_of, IsWritable};
 
     /// Writes the text. After `Failed` a part of it was appended that isn't the whole. Takes no memory.
     pub fn write<O: Sink>(&self, out: &mut O) -> Result<(), Failed>
+        requires { IsWritable self.now }
+
         ensures ok { OnOk result (Appended (O.state out.old) (O.state out.new) (text_of self.now)) }
         ensures err { OnErr result (FailedWriting (O.state out.old) (O.state out.new) (text_of self.now)) }
     {
         match self {
             Text::Bare(column) => write_bare(out, column.as_slice()),
+            Text::Whole(result) => result.write(out),
             Text::Line(line) => write_whole(out, line.as_slice()),
         }
     }

@@ -1,31 +1,120 @@
 //! The tasks that solve a problem: a module each, which finds the columns of a result.
 ghost use Rattle.std.specs.Prelude.{IfOk, IfErr, OnOk};
-ghost use Rattle.jul_cmd.specs.Asking.{problem_of, form_of};
-ghost use Rattle.jul_cmd.specs.Solving.{IsSuited, AreValues, IsDone};
-ghost use Rattle.jul_cmd.specs.Parts.{text_of, IsUnsolved};
+ghost use Rattle.jul_witness.specs.Lawful.{IsLawful};
+ghost use Rattle.jul_query.specs.Queries.{whole, bare};
+ghost use Rattle.jul_query.specs.Ranges.{IsProblemInRange};
+ghost use Rattle.jul_query.specs.Asking.{problem_of, form_of};
+ghost use Rattle.jul_cmd.specs.Suited.{IsSuited};
+ghost use Rattle.jul_cmd.specs.Solving.{AreValues, IsResult, IsDone};
+ghost use Rattle.jul_cmd.specs.Parts.{text_of, IsWritable, IsUnsolved};
 
-use crate::distances::find_distances;
-use crate::queries::{Form, Problem};
+use crate::cores::find_cores;
+use crate::covers::find_cover;
+use crate::distances::{find_distances, find_tree};
 use crate::replies::{Reply, Text};
 use crate::resources::Resources;
 use crate::statuses::Status;
-use jul_base::{Column, Gate};
+use crate::summaries::solve_summary;
+use jul_base::{Column, Gate, MAX_N};
+use jul_query::{Form, Problem};
 use jul_rows::Rows;
+use jul_witness::Witness;
 use std::thread::Threads;
 
-// The result of a problem.
+// The first column of the result of a problem.
 fn find_column<R: Threads + Sync, G: Gate>(
     resources: &Resources<'_, '_, R, G>,
     rows: &Rows,
     problem: Problem,
 ) -> Result<Column, Status>
+    requires { IsProblemInRange problem }
+
     ensures suited { OnOk result (IsSuited rows.now (problem_of problem)) }
     ensures found { IfOk result (AreValues rows.now (problem_of problem)) }
     ensures refused { IfErr result (IsUnsolved rows.now (problem_of problem)) }
 {
     match problem {
         Problem::Distances { source, delta } => find_distances(resources, rows, source, delta),
+        Problem::Cores => {
+            let found = find_cores(resources, rows)?;
+            Ok(found.core)
+        }
+        Problem::Cover => {
+            let found = find_cover(resources, rows)?;
+            Ok(found.by)
+        }
     }
+}
+
+// All columns of the result of a problem.
+fn find_result<R: Threads + Sync, G: Gate>(
+    resources: &Resources<'_, '_, R, G>,
+    rows: &Rows,
+    problem: Problem,
+) -> Result<Witness, Status>
+    requires { IsProblemInRange problem }
+
+    ensures suited { OnOk result (IsSuited rows.now (problem_of problem)) }
+    ensures found { IfOk result (IsResult rows.now (problem_of problem)) }
+    ensures lawful { IfOk result IsLawful }
+    ensures refused { IfErr result (IsUnsolved rows.now (problem_of problem)) }
+{
+    match problem {
+        Problem::Distances { source, delta } => {
+            let found = find_tree(resources, rows, source, delta)?;
+            Ok(Witness::Distances(found))
+        }
+        Problem::Cores => {
+            let found = find_cores(resources, rows)?;
+            Ok(Witness::Cores(found))
+        }
+        Problem::Cover => {
+            let found = find_cover(resources, rows)?;
+            Ok(Witness::Cover(found))
+        }
+    }
+}
+
+// The first column alone.
+fn solve_bare<R: Threads + Sync, G: Gate>(
+    resources: &Resources<'_, '_, R, G>,
+    rows: &Rows,
+    problem: Problem,
+) -> Result<Reply, Status>
+    requires { IsProblemInRange problem }
+
+    ensures done { IfOk result (λ reply.
+        IsDone rows.now (problem_of problem) bare reply.status (text_of reply.text)) }
+    ensures writable { IfOk result (λ reply. IsWritable reply.text) }
+    ensures refused { IfErr result (IsUnsolved rows.now (problem_of problem)) }
+{
+    let column = find_column(resources, rows, problem)?;
+    Ok(Reply {
+        status: Status::Done,
+        text: Text::Bare(column),
+    })
+}
+
+// All columns, which a check accepts.
+fn solve_whole<R: Threads + Sync, G: Gate>(
+    resources: &Resources<'_, '_, R, G>,
+    rows: &Rows,
+    problem: Problem,
+) -> Result<Reply, Status>
+    requires { IsProblemInRange problem }
+
+    ensures done { IfOk result (λ reply.
+        IsDone rows.now (problem_of problem) whole reply.status (text_of reply.text)) }
+    ensures writable { IfOk result (λ reply. IsWritable reply.text) }
+    ensures refused { IfErr result (IsUnsolved rows.now (problem_of problem)) }
+{
+    prove!(rows.n() <= MAX_N);
+    let found = find_result(resources, rows, problem)?;
+    found.is_read_back();
+    Ok(Reply {
+        status: Status::Done,
+        text: Text::Whole(found),
+    })
 }
 
 /// The result of a problem in its form, ready to be written, or why there is none.
@@ -35,16 +124,16 @@ pub fn solve<R: Threads + Sync, G: Gate>(
     problem: Problem,
     form: Form,
 ) -> Result<Reply, Status>
+    requires { IsProblemInRange problem }
+
     ensures done { IfOk result (λ reply.
         IsDone rows.now (problem_of problem) (form_of form) reply.status (text_of reply.text)) }
+    ensures writable { IfOk result (λ reply. IsWritable reply.text) }
     ensures refused { IfErr result (IsUnsolved rows.now (problem_of problem)) }
 {
-    let column = find_column(resources, rows, problem)?;
-    let text = match form {
-        Form::Bare => Text::Bare(column),
-    };
-    Ok(Reply {
-        status: Status::Done,
-        text,
-    })
+    match form {
+        Form::Whole => solve_whole(resources, rows, problem),
+        Form::Bare => solve_bare(resources, rows, problem),
+        Form::Summary(task) => solve_summary(resources, rows, problem, task),
+    }
 }

@@ -1,6 +1,6 @@
 //! The sources of a search, against the vertices of the graph.
 ghost use Rattle.std.specs.Prelude.{◌≡◌, Some, None, OnOk, IfErr};
-ghost use Rattle.jul_cmd.specs.Solving.{refusal_of_sources};
+ghost use Rattle.jul_cmd.specs.Suited.{refusal_of_sources};
 
 use crate::statuses::Status;
 

@@ -1,9 +1,9 @@
 //! How a run ends.
 ghost use Rattle.std.specs.Prelude.{◌≡◌};
 ghost use Rattle.jul_cmd.specs.declared.statuses.Status.TheVariants.{Memory};
-ghost use Rattle.jul_cmd.specs.Statuses.{graph_refusal, witness_refusal};
+ghost use Rattle.jul_cmd.specs.Statuses.{stream_refusal, witness_refusal};
 
-use jul_adj::{Fault, ReadError};
+use jul_adj::{Fault, StreamError};
 use jul_check::Reason;
 use jul_witness::{WitnessError, WitnessFault};
 use std::alloc::AllocError;
@@ -35,6 +35,12 @@ pub enum Status {
     GraphFault(Fault),
     /// The witness file has a fault, and this is its first one.
     WitnessFault(WitnessFault),
+    /// The graph is not symmetric.
+    Asymmetric {
+        /// The least place from some `u` to some `w` for which the row of `u` has more entries `w` than the row of
+        /// `w` has entries `u`.
+        place: u32,
+    },
     /// The source is not below the number of vertices.
     SourceRange {
         /// The source that the words name.
@@ -72,7 +78,8 @@ impl Status {
             Status::No { .. } => 1,
             Status::Usage => 2,
             Status::GraphFault(_) | Status::WitnessFault(_) => 3,
-            Status::SourceRange { .. } | Status::SizeDiffers { .. } => 4,
+            Status::Asymmetric { .. } | Status::SourceRange { .. } | Status::SizeDiffers { .. } =>
+                4,
             Status::ReadFault { .. } => 5,
             Status::WriteFault => 6,
             Status::Memory => 7,
@@ -88,13 +95,14 @@ impl From<AllocError> for Status {
     }
 }
 
-impl From<ReadError> for Status {
-    ghost from_gives = { λ error status. status ≡ graph_refusal error };
+impl From<StreamError> for Status {
+    ghost from_gives = { λ error status. status ≡ stream_refusal error };
 
-    fn from(error: ReadError) -> Status {
+    fn from(error: StreamError) -> Status {
         match error {
-            ReadError::Bad(fault) => Status::GraphFault(fault),
-            ReadError::Memory => Status::Memory,
+            StreamError::Failed => Status::ReadFault { file: Which::Graph },
+            StreamError::Bad(fault) => Status::GraphFault(fault),
+            StreamError::Memory => Status::Memory,
         }
     }
 }

@@ -1,7 +1,8 @@
 //! Whole runs on small graphs. Distances, verdicts and the places of faults were worked out by hand.
 use crate::{Status, Which, run};
-use jul_base::{MemShelf, MemSink, OpenGate};
+use jul_base::{Gate, MemShelf, MemSink, OpenGate};
 use std::alloc::{AllocError, Global};
+use std::sync::atomic::{AtomicU64, Ordering};
 use std::test::Fail;
 use std::thread::Threads;
 
@@ -11,6 +12,13 @@ const TWO_WAYS: &str = "WeightedAdjacencyGraph\r\n3 3\r\n0 2 2\t1 2 1\n5 1 2";
 const TRIANGLE: &str = "AdjacencyGraph 4 8 0 2 4 7 1 2 0 2 0 1 3 2";
 /// One edge, and a vertex that isn't reached.
 const APART: &str = "AdjacencyGraph 3 1 0 1 1 1";
+
+/// Two triangles with an edge between them.
+const TWO_TRIANGLES: &str = "AdjacencyGraph 6 14 0 2 4 7 10 12 1 2 0 2 0 1 3 2 4 5 3 5 3 4";
+/// A vertex that is lowered in the bucket that it was drawn from.
+const LOWERED_TWICE: &str = "WeightedAdjacencyGraph 4 4 0 2 3 4 1 2 3 1 9 1 5 6";
+/// Two sets of four elements with three in common.
+const OVERLAPPING: &str = "AdjacencyGraph 9 8 0 4 8 8 8 8 8 8 8 4 5 6 7 5 6 7 8";
 
 const LOOP: &str = "AdjacencyGraph 1 1 0 0";
 
@@ -53,6 +61,15 @@ fn outcome_of<R: Threads + Sync>(
     alloc: Global,
     trial: &Trial<'_>,
 ) -> Result<Outcome, AllocError> {
+    outcome_with(rt, alloc, trial, &OpenGate)
+}
+
+fn outcome_with<R: Threads + Sync, G: Gate>(
+    rt: &R,
+    alloc: Global,
+    trial: &Trial<'_>,
+    gate: &G,
+) -> Result<Outcome, AllocError> {
     let mut words = Vec::new(alloc);
     for word in trial.words {
         words.push(String::from_str(alloc, word)?)?;
@@ -74,7 +91,7 @@ fn outcome_of<R: Threads + Sync>(
         &mut files,
         &mut out,
         &mut err,
-        &OpenGate,
+        gate,
     );
     Ok(Outcome {
         status,
@@ -247,11 +264,13 @@ fn other_words_are_not_taken(rt: HostRuntime) -> Result<(), Fail> {
     for words in [
         ["check", "-", "-"].as_slice(),
         ["check", "g", "--source"].as_slice(),
-        ["check", "--source", "0", "g", "w"].as_slice(),
+        ["check", "g", "w", "--bare"].as_slice(),
         ["wbfs", "--bare", "--source", "4294967296", "g"].as_slice(),
         ["wbfs", "--bare", "--source", "0", "g", "w"].as_slice(),
         ["delta", "--bare", "--source", "0", "--delta", "0", "g"].as_slice(),
-        ["delta", "--bare", "--delta", "1", "--source", "0", "g"].as_slice(),
+        ["kcore", "g", "--source", "0"].as_slice(),
+        ["kcore", "g", "--chunk", "1", "--chunk", "1"].as_slice(),
+        ["demo", "peel", "--n", "1", "--pairs", "0", "--seed", "0"].as_slice(),
         ["delta", "--bare", "--source", "0", "g"].as_slice(),
     ] {
         let outcome = outcome_of(&rt, rt.alloc(), &trial_of(words, &[("g", TWO_WAYS)]))?;
@@ -286,5 +305,140 @@ fn failing_objects_are_told(rt: HostRuntime) -> Result<(), Fail> {
     assert_eq!(rt; outcome.status, Status::WriteFault);
     assert_eq!(rt; outcome.out.as_slice(), b"0\n3\n".as_slice());
     assert_eq!(rt; outcome.err.len(), 0);
+    Ok(())
+}
+
+#[test]
+fn results_are_written_whole_and_bare(rt: HostRuntime) -> Result<(), Fail> {
+    for (words, file, code, text) in [
+        (
+            ["kcore", "g"].as_slice(),
+            TRIANGLE,
+            0,
+            "Cores\n4\n2 1\n2 1\n2 1\n1 0\n",
+        ),
+        (
+            ["kcore", "g"].as_slice(),
+            TWO_TRIANGLES,
+            0,
+            "Cores\n6\n2 0\n2 0\n2 1\n2 1\n2 0\n2 0\n",
+        ),
+        (
+            ["kcore", "g", "--bare"].as_slice(),
+            TRIANGLE,
+            0,
+            "2\n2\n2\n1\n",
+        ),
+        (["kcore", "g"].as_slice(), LOOP, 0, "Cores\n1\n1 0\n"),
+        (["kcore", "g"].as_slice(), "AdjacencyGraph 2 1 0 1 1", 4, ""),
+        (
+            ["wbfs", "g", "--source=0"].as_slice(),
+            TWO_WAYS,
+            0,
+            "Distances\n3\n0 0 -\n3 2 2\n1 1 0\n",
+        ),
+        (
+            ["wbfs", "g"].as_slice(),
+            APART,
+            0,
+            "Distances\n3\n0 0 -\n1 1 0\n- - -\n",
+        ),
+        (
+            ["--delta", "10", "delta", "g"].as_slice(),
+            LOWERED_TWICE,
+            0,
+            "Distances\n4\n0 0 -\n7 2 2\n1 1 0\n12 3 1\n",
+        ),
+        (
+            ["cover", "g"].as_slice(),
+            TWO_SETS,
+            0,
+            "Cover\n5\n0 -\n0 -\n- 0\n- 0\n- 1\n",
+        ),
+        (
+            ["cover", "g"].as_slice(),
+            OVERLAPPING,
+            0,
+            "Cover\n9\n0 -\n1 -\n- -\n- -\n- 0\n- 0\n- 0\n- 0\n- 1\n",
+        ),
+        (
+            ["cover", "g", "--bare"].as_slice(),
+            OVERLAPPING,
+            0,
+            "-\n-\n-\n-\n0\n0\n0\n0\n1\n",
+        ),
+        (
+            ["demo", "kcore", "--n", "1", "--pairs", "3", "--seed", "7"].as_slice(),
+            "",
+            0,
+            "kcore n 1 m 6 max 6 top 1\n",
+        ),
+        (
+            ["demo", "wbfs", "--n", "5", "--pairs", "0", "--seed", "0"].as_slice(),
+            "",
+            0,
+            "wbfs n 5 m 0 reached 1 max 0\n",
+        ),
+        (
+            ["demo", "cover", "--n", "1", "--pairs", "3", "--seed", "7"].as_slice(),
+            "",
+            0,
+            "cover n 1 m 6 chosen 1 covered 1\n",
+        ),
+    ] {
+        let outcome = outcome_of(&rt, rt.alloc(), &trial_of(words, &[("g", file)]))?;
+        assert_eq!(rt; outcome.status.code(), code, "{text}");
+        assert_eq!(rt; outcome.out.as_slice(), text.as_bytes(), "{text}");
+    }
+    Ok(())
+}
+
+/// Counts its passes.
+#[derive(Drop)]
+struct CountGate {
+    passes: AtomicU64,
+}
+
+impl Gate for CountGate {
+    fn pass(&self, _worker: u32, _chunk: u32) {
+        self.passes.fetch_add(1, Ordering::SeqCst);
+    }
+}
+
+fn passes_of<R: Threads + Sync>(
+    rt: &R,
+    alloc: Global,
+    trial: &Trial<'_>,
+) -> Result<u64, AllocError> {
+    let gate = CountGate {
+        passes: AtomicU64::new(0),
+    };
+    outcome_with(rt, alloc, trial, &gate)?;
+    Ok(gate.passes.load(Ordering::SeqCst))
+}
+
+#[test]
+fn the_engines_work_through_the_pool(rt: HostRuntime) -> Result<(), Fail> {
+    for (words, file, least) in [
+        (
+            ["kcore", "g", "--workers", "2", "--chunk", "1"].as_slice(),
+            TWO_TRIANGLES,
+            6,
+        ),
+        (
+            ["delta", "g", "--delta", "10", "--workers", "2", "--chunk=1"].as_slice(),
+            LOWERED_TWICE,
+            5,
+        ),
+        (
+            ["cover", "g", "--workers", "2", "--chunk", "1"].as_slice(),
+            OVERLAPPING,
+            3,
+        ),
+    ] {
+        let files = [("g", file)];
+        let passes = passes_of(&rt, rt.alloc(), &trial_of(words, &files))?;
+        assert!(rt; passes >= least, "{file}");
+    }
     Ok(())
 }

@@ -1,5 +1,5 @@
-use Rattle.jul_cmd.specs.Queries.{meant}
-use Rattle.jul_cmd.specs.Asking.{named_sources}
+use Rattle.jul_query.specs.Queries.{meant}
+use Rattle.jul_query.specs.Asking.{named_sources}
 use Rattle.jul_cmd.proofs.VerdictLaws.{at_err}
 use Rattle.jul_cmd.proofs.AnswerLaws.{unread_refused}
 use Rattle.jul_cmd.proofs.checking.check.Goals as goal

@@ -1,7 +1,7 @@
 use Rattle.std.proofs.Common.{[], ◌∷◌, Ok, sym, ◌∙◌, ap, subst}
 use Rattle.jul_check.specs.declared.verdicts.Verdict.{Verdict}
 use Rattle.jul_witness.specs.declared.witnesses.Witness.{Witness}
-use Rattle.jul_cmd.specs.Solving.{refusal_of_sources}
+use Rattle.jul_cmd.specs.Suited.{refusal_of_sources}
 use Rattle.jul_cmd.specs.Checking.{IsBorneOut}
 use Rattle.jul_cmd.proofs.VerdictLaws.{at_ok, ok_is, same_ok, judges_refused, judges_outside, judged-cores, judged-cover, judged-distances}
 use Rattle.jul_cmd.proofs.checking.judge_columns.Goals as goal

@@ -1,5 +1,12 @@
-use Rattle.jul_cmd.proofs.AnswerLaws.{written_cause}
+use Rattle.std.proofs.Common.{sym, ◌∙◌, map, string_bytes}
+use Rattle.jul_query.specs.Asking.{asked_by}
+use Rattle.jul_query.specs.Words.{asked}
+use Rattle.jul_cmd.proofs.AnswerLaws.{refused_cause}
+use Rattle.jul_cmd.proofs.QueryLaws.{taken_as}
 use Rattle.jul_cmd.proofs.running.answer.Goals as goal
 
-pub returns-in-Ok-write-clause-cause : goal.returns-in-Ok-write-clause-cause
-returns-in-Ok-write-clause-cause g c = written_cause _ _ _ _ _ _ c.in-Ok.reply.status _ c.in-Some.ensures c.in-Ok.ensures.given c.in-Ok.ensures.found c.in-Ok-write.ensures.ok
+pub returns-in-Err-find_reply-clause-cause : goal.returns-in-Err-find_reply-clause-cause
+returns-in-Err-find_reply-clause-cause g c =
+    let words = map string_bytes c.args.words.now in
+    refused_cause words (asked_by c.in-Ok-Some.query) _ _ _ c.in-Err-find_reply.status
+    (taken_as c.in-Ok-Some.field-0 c.in-Ok-Some.query (asked words) c.in-Ok-Some.field-0-is c.in-Ok-Some.ensures.asked) c.in-Err-find_reply.ensures.refused

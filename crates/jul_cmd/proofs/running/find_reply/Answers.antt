@@ -1,6 +1,6 @@
 use Rattle.std.proofs.Common.{ap}
 use Rattle.std.proofs.lemmas.Result.{IfOk-weaker}
-use Rattle.jul_cmd.specs.Asking.{input_of, work_of, problem_of, form_of, named_sources}
+use Rattle.jul_query.specs.Asking.{input_of, work_of, problem_of, form_of, named_sources}
 use Rattle.jul_cmd.proofs.VerdictLaws.{at_err, if_err_weaker}
 use Rattle.jul_cmd.proofs.AnswerLaws.{input_refused, solve_done, solve_refused, checked_done, check_refused}
 use Rattle.jul_cmd.proofs.running.find_reply.Goals as goal

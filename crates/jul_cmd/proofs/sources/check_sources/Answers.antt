@@ -1,6 +1,6 @@
 use Rattle.std.proofs.Common.{sym, ap, ◌∙◌, add-one, arith, drop}
 use Rattle.std.proofs.lemmas.List.{drop_all}
-use Rattle.jul_cmd.specs.Solving.{refusal_of_sources}
+use Rattle.jul_cmd.specs.Suited.{refusal_of_sources}
 use Rattle.jul_cmd.proofs.SourceLaws.{source_inside, source_outside}
 use Rattle.jul_cmd.proofs.sources.check_sources.Goals as goal
 

@@ -1,5 +1,5 @@
 use Rattle.std.proofs.Common.{◌≡◌, drop}
-use Rattle.jul_cmd.specs.Solving.{refusal_of_sources}
+use Rattle.jul_cmd.specs.Suited.{refusal_of_sources}
 use Rattle.jul_cmd.proofs.sources.check_sources.Given as goal
 
 -- the rest decides

@@ -1,0 +1,164 @@
+-- Results that are written whole: they can be written, and a check accepts them.
+use Rattle.std.proofs.Common.{◌≡◌, ◌≢◌, ℕ, ◌<◌, ◌≤◌, ◌^◌, List, [], ◌∷◌, length, get_or, Option, Some, None, Result, Ok, refl, sym, ◌∙◌, subst, ap, arith, inl, inr, MatchOption}
+use Rattle.std.specs.Prelude.{Contains, codes}
+use Rattle.std.specs.List.{All}
+use Rattle.std.proofs.lemmas.Bool.{cases_lt, cond-true, cond-false, lt-ltb, le-ltb}
+use Rattle.std.proofs.lemmas.Bool.Decides.{Decides-eqb}
+use Rattle.std.proofs.lemmas.List.Elements.{All-nil, All-cons, All-contains, All-from_get_or}
+use Rattle.jul_base.specs.declared.graphs.RawGraph.{RawGraph}
+use Rattle.jul_base.specs.declared.limits.TheConstants.{NONE, MAX_BYTES}
+use Rattle.jul_base.specs.declared.results.Cores.{Cores}
+use Rattle.jul_base.specs.declared.results.Distances.{Distances}
+use Rattle.jul_base.specs.declared.results.Cover.{Cover}
+use Rattle.jul_base.specs.Sets.{sets_of}
+use Rattle.jul_base.specs.CoverRounds.{IsCover}
+use Rattle.jul_base.proofs.SetLaws.{length-sets_of}
+use Rattle.jul_base.specs.Numbers.{IsColumn}
+use Rattle.jul_base.specs.Graph.{vertices, target, count, IsLawful, IsPlaceOf}
+use Rattle.jul_base.specs.Symmetry.{IsSymmetric, IsFirstAsymmetricPlace}
+use Rattle.jul_base.proofs.GraphLaws.{place_in_range, target_in_range}
+use Rattle.jul_base.specs.Coreness.{IsCoreness, inner_degree}
+use Rattle.jul_base.specs.Levels.{IsLevel, peeling, taken}
+use Rattle.jul_base.specs.Trees.{AreTree}
+use Rattle.jul_base.proofs.PeelLaws.{has-from_Contains}
+use Rattle.jul_core.specs.Peels.{AreCores}
+use Rattle.jul_core.proofs.StageLaws.{inner_degree-few, taken-is}
+use Rattle.jul_core.proofs.DrawLaws.{rounds-few}
+use Rattle.jul_witness.specs.declared.witnesses.Witness.{Witness}
+use Rattle.jul_witness.specs.declared.witnesses.Witness.TheVariants as results
+use Rattle.jul_witness.specs.declared.faults.WitnessFault.{WitnessFault as FaultOfWitness}
+use Rattle.jul_witness.specs.Lawful.{AreLawfulCores, AreLawfulDistances, IsLawfulCover}
+use Rattle.jul_witness.specs.Reading.{reads_witness}
+use Rattle.jul_witness.specs.Texts.{witness_text}
+use Rattle.jul_check.specs.declared.verdicts.Verdict.{Verdict}
+use Rattle.jul_check.specs.declared.verdicts.Verdict.TheVariants.{Yes}
+use Rattle.jul_check.proofs.CoreAcceptLaws.{peeled_accepted}
+use Rattle.jul_check.proofs.DistanceAcceptLaws.{tree_accepted}
+use Rattle.jul_check.proofs.CoverAcceptLaws.{rounds_accepted}
+use Rattle.jul_cmd.specs.declared.statuses.Status.{Status}
+use Rattle.jul_cmd.specs.declared.statuses.Status.TheVariants.{Done, SourceRange}
+use Rattle.jul_query.specs.Queries.{Problem, distances, cores, cover}
+use Rattle.jul_cmd.specs.Suited.{refusal_of_sources, IsSuited}
+use Rattle.jul_cmd.specs.Files.{witness_of_file}
+use Rattle.jul_cmd.specs.Checking.{size_of, judged, judged_file, verdict_text, IsTold}
+use Rattle.jul_cmd.specs.Solving.{IsResult, sources_of, IsAccepted, IsWholeText}
+use Rattle.jul_cmd.proofs.VerdictLaws.{judged-cores, judged-cover, judged-distances}
+
+-- ---- a symmetric graph is suited
+
+pub symmetric_suited : (g : RawGraph) → IsLawful g → IsSymmetric g → IsSuited g cores
+symmetric_suited g lawful symmetric status (p, first, is) =
+    let (u, from, more) = first.holds in
+    let same : count g u (target g p) ≡ count g (target g p) u =
+    symmetric u (target g p) from.vertex (target_in_range g lawful p (place_in_range g lawful u p from)) in
+    absurd (omega (arith, more, same))
+
+-- no first asymmetric place was found
+pub none_asymmetric : (g : RawGraph) (found : Option ℕ) → found ≡ None → MatchOption found (IsSymmetric g) (IsFirstAsymmetricPlace g) → IsSymmetric g
+none_asymmetric g None e symmetric = symmetric
+none_asymmetric g (Some p) e first = absurd (cc)
+
+-- ---- the numbers of cores are all there
+
+core_some : (g : RawGraph) → IsLawful g → (v k : ℕ) → IsCoreness g v k → k ≢ NONE
+core_some g lawful v k is none =
+    let (s, core, there) = is.holds in
+    let le : k ≤ inner_degree g s v = All-contains (λ u. k ≤ inner_degree g s u) s v core.degrees there in
+    absurd (omega (arith, le, inner_degree-few g lawful s v, none))
+
+level_some : (g : RawGraph) → IsLawful g → (v t : ℕ) → IsLevel g v t → t ≢ NONE
+level_some g lawful v t is none =
+    let left = (taken-is g (peeling g t) v (has-from_Contains (taken g (peeling g t)) v is)).0 in
+    let few : t < vertices g = rounds-few g t v left in
+    absurd (omega (arith, few, lawful.few_vertices, none))
+
+pub cores_result : (g : RawGraph) (c : Cores) → AreCores g c → IsResult g cores (results.Cores c)
+cores_result g c are = (record { size = are.core_size; each = are.cores }, record { size = are.level_size; each = are.levels })
+
+pub cores_lawful : (g : RawGraph) → IsLawful g → (c : Cores) → IsResult g cores (results.Cores c) → AreLawfulCores c
+cores_lawful g lawful c (core, level) = record {
+  few = omega (arith, core.size, lawful.few_vertices);
+  level = level.size ∙ sym core.size;
+  cores = All-from_get_or (λ x. x ≢ NONE) c.core 0 (λ v lt. core_some g lawful v (get_or c.core v 0) (core.each v (omega (arith, lt, core.size))));
+  levels = All-from_get_or (λ x. x ≢ NONE) c.level 0 (λ v lt. level_some g lawful v (get_or c.level v 0) (level.each v (omega (arith, lt, level.size))));
+}
+
+-- ---- the columns of distances have one length
+
+pub tree_lawful : (g : RawGraph) → IsLawful g → (sources : List ℕ) (d : Distances) → AreTree g sources d.dist d.hops d.parent → AreLawfulDistances d
+tree_lawful g lawful sources d tree = record {
+  few = omega (arith, tree.distances.size, lawful.few_vertices);
+  hops = tree.hop_counts.size ∙ sym tree.distances.size;
+  parent = tree.parents.size ∙ sym tree.distances.size;
+}
+
+-- ---- so have those of a cover
+
+pub cover_lawful : (g : RawGraph) → IsLawful g → (c : Cover) → IsCover (sets_of g) c → IsLawfulCover c
+cover_lawful g lawful c is = record {
+  few = omega (arith, is.round.size, length-sets_of g, lawful.few_vertices);
+  by = is.by.size ∙ sym is.round.size;
+}
+
+-- ---- a check says yes
+
+none_from : (o : Option Status) → ((status : Status) → o ≡ Some status → ⊥) → o ≡ None
+none_from None other = refl
+none_from (Some status) other = absurd (other status refl)
+
+-- sources that aren't refused are vertices
+pub sources_within : (n : ℕ) (xs : List ℕ) → refusal_of_sources n xs ≡ None → All (λ s. s < n) xs
+sources_within n [] e = All-nil (λ s. s < n)
+sources_within n (x ∷ xs) e = elim (cases_lt x n) [
+  | inl inside ↦ All-cons (λ s. s < n) x xs inside (sources_within n xs (sym (cond-true _ _ _ (lt-ltb x n inside)) ∙ e))
+  | inr outside ↦ let refused : Some (SourceRange x n) ≡ None = sym (cond-false _ _ _ (le-ltb x n outside)) ∙ e in absurd (cc)
+]
+
+size_is : (g : RawGraph) (problem : Problem) (w : Witness) → IsResult g problem w → size_of w ≡ vertices g
+size_is g (distances sources) (results.Distances d) tree = tree.distances.size
+size_is g (distances sources) (results.Cores c) none = absurd none
+size_is g (distances sources) (results.Cover c) none = absurd none
+size_is g cover (results.Cover c) found = found.rounds.round.size ∙ length-sets_of g
+size_is g cover (results.Cores c) none = absurd none
+size_is g cover (results.Distances d) none = absurd none
+size_is g cores (results.Cores c) (core, level) = core.size
+size_is g cores (results.Distances d) none = absurd none
+size_is g cores (results.Cover c) none = absurd none
+
+judged_yes : (g : RawGraph) → IsLawful g → (problem : Problem) (w : Witness) → IsSuited g problem → IsResult g problem w → judged g (sources_of problem) w ≡ Ok Yes
+judged_yes g lawful (distances sources) (results.Distances d) suited tree =
+    let inside : refusal_of_sources (vertices g) sources ≡ None = none_from (refusal_of_sources (vertices g) sources) suited in
+    judged-distances g sources (results.Distances d) d refl inside
+    ∙ ap (λ (v : Verdict). Ok v) (tree_accepted g sources d lawful (sources_within (vertices g) sources inside) tree)
+judged_yes g lawful (distances sources) (results.Cores c) suited none = absurd none
+judged_yes g lawful (distances sources) (results.Cover c) suited none = absurd none
+judged_yes g lawful cover (results.Cover c) suited found =
+    judged-cover g (sources_of cover) (results.Cover c) c refl ∙ ap (λ (v : Verdict). Ok v) (rounds_accepted g c found.rounds)
+judged_yes g lawful cover (results.Cores c) suited none = absurd none
+judged_yes g lawful cover (results.Distances d) suited none = absurd none
+judged_yes g lawful cores (results.Cores c) suited (core, level) =
+    judged-cores g (sources_of cores) (results.Cores c) c refl ∙ ap (λ (v : Verdict). Ok v) (peeled_accepted g lawful c core level)
+judged_yes g lawful cores (results.Distances d) suited none = absurd none
+judged_yes g lawful cores (results.Cover c) suited none = absurd none
+
+file_yes : (g : RawGraph) → IsLawful g → (problem : Problem) (w : Witness) → IsSuited g problem → IsResult g problem w → judged_file g (sources_of problem) (Ok w) ≡ Ok Yes
+unfolding judged_file
+file_yes g lawful problem w suited is =
+    cond-true _ _ _ ((Decides-eqb (size_of w) (vertices g)).1 (size_is g problem w is)) ∙ judged_yes g lawful problem w suited is
+
+reads_text : (w : Witness) → reads_witness (witness_text w) MAX_BYTES ≡ Ok w → witness_of_file (witness_text w) ≡ Ok w
+unfolding witness_of_file
+reads_text w e = e
+
+accepted_text : (g : RawGraph) → IsLawful g → (problem : Problem) (w : Witness) → IsSuited g problem → IsResult g problem w → reads_witness (witness_text w) MAX_BYTES ≡ Ok w →
+    IsAccepted g problem (witness_text w)
+accepted_text g lawful problem w suited is read =
+    let said : judged_file g (sources_of problem) (witness_of_file (witness_text w)) ≡ Ok Yes =
+    ap (judged_file g (sources_of problem)) (reads_text w read) ∙ file_yes g lawful problem w suited is in
+    let P : Result Verdict Status → Type 0 = λ r. IsTold r Done (codes "yes\n") in
+    subst P (sym said) (refl, refl)
+
+-- the text of a result is one that a check accepts
+pub whole_text : (g : RawGraph) → IsLawful g → (problem : Problem) (w : Witness) → IsSuited g problem → IsResult g problem w → reads_witness (witness_text w) MAX_BYTES ≡ Ok w →
+    IsWholeText g problem (witness_text w)
+whole_text g lawful problem w suited is read = record { result = w; is_result = is; is_text = refl; accepted = accepted_text g lawful problem w suited is read }

@@ -1,0 +1,9 @@
+use Rattle.jul_base.specs.Graph.{vertices, places}
+use Rattle.jul_query.specs.Words.{task_name}
+use Rattle.jul_cmd.proofs.SummaryLaws.{distances_line}
+use Rattle.jul_cmd.proofs.summaries.sum_distances.Goals as goal
+
+pub returns-clause-summed : goal.returns-clause-summed
+returns-clause-summed g c =
+    let h = c.args.rows.now in
+    (c.in_ok-dist.dist, c.in_ok-dist.ensures.found, distances_line (task_name c.args.task) (vertices h) (places h) c.in_ok-dist.dist c.line_of.result _ _ c.line_of.ensures c.number_count-reached.ensures c.greatest_number-most.ensures)

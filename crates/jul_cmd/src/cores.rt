@@ -1,0 +1,51 @@
+//! The task `kcore`: the coreness and the level of each vertex of a symmetric graph.
+ghost use Rattle.std.specs.Prelude.{IfOk, IfErr, OnOk};
+ghost use Rattle.jul_base.specs.Symmetry.{IsSymmetric};
+ghost use Rattle.jul_witness.specs.Lawful.{AreLawfulCores};
+ghost use Rattle.jul_witness.specs.declared.witnesses.Witness.TheVariants as results;
+ghost use Rattle.jul_query.specs.Queries.{cores};
+ghost use Rattle.jul_cmd.specs.Suited.{IsSuited};
+ghost use Rattle.jul_cmd.specs.Solving.{AreValues, IsResult};
+ghost use Rattle.jul_cmd.specs.Parts.{IsUnsolved};
+
+use crate::resources::Resources;
+use crate::statuses::Status;
+use jul_base::{Cores, Gate, MAX_N};
+use jul_core::cores_of;
+use jul_rows::Rows;
+use std::thread::Threads;
+
+// Whether the graph is symmetric, or the refusal of its first asymmetric place.
+fn check_symmetry(rows: &Rows) -> Result<(), Status>
+    ensures suited { OnOk result (IsSymmetric rows.now × IsSuited rows.now cores) }
+    ensures refused { IfErr result (IsUnsolved rows.now cores) }
+{
+    prove!(rows.n() <= MAX_N);
+    match rows.first_asymmetry()? {
+        None => Ok(()),
+        Some(place) => Err(Status::Asymmetric { place }),
+    }
+}
+
+/// The coreness and the level of each vertex, or why there are none.
+pub fn find_cores<R: Threads + Sync, G: Gate>(
+    resources: &Resources<'_, '_, R, G>,
+    rows: &Rows,
+) -> Result<Cores, Status>
+    ensures suited { OnOk result (IsSuited rows.now cores) }
+    ensures values { IfOk result (λ found. AreValues rows.now cores found.core) }
+    ensures whole { IfOk result (λ found. IsResult rows.now cores (results.Cores found)) }
+    ensures lawful { IfOk result AreLawfulCores }
+    ensures refused { IfErr result (IsUnsolved rows.now cores) }
+{
+    prove!(rows.n() <= MAX_N);
+    check_symmetry(rows)?;
+    let found = cores_of(
+        resources.rt,
+        resources.alloc,
+        &resources.team,
+        rows,
+        resources.open_buckets,
+    )?;
+    Ok(found)
+}

@@ -1,0 +1,36 @@
+//! The task `cover`: an approximate set cover, in rounds.
+ghost use Rattle.std.specs.Prelude.{IfOk, IfErr, OnOk};
+ghost use Rattle.jul_witness.specs.Lawful.{IsLawfulCover};
+ghost use Rattle.jul_witness.specs.declared.witnesses.Witness.TheVariants as results;
+ghost use Rattle.jul_query.specs.Queries.{cover};
+ghost use Rattle.jul_cmd.specs.Suited.{IsSuited};
+ghost use Rattle.jul_cmd.specs.Solving.{IsResult};
+ghost use Rattle.jul_cmd.specs.Parts.{IsUnsolved};
+
+use crate::resources::Resources;
+use crate::statuses::Status;
+use jul_base::{Cover, Gate, MAX_N};
+use jul_cover::cover_of;
+use jul_rows::Rows;
+use std::thread::Threads;
+
+/// The rounds of a cover and the set of each element, or why there are none.
+pub fn find_cover<R: Threads + Sync, G: Gate>(
+    resources: &Resources<'_, '_, R, G>,
+    rows: &Rows,
+) -> Result<Cover, Status>
+    ensures suited { OnOk result (IsSuited rows.now cover) }
+    ensures whole { IfOk result (λ found. IsResult rows.now cover (results.Cover found)) }
+    ensures lawful { IfOk result IsLawfulCover }
+    ensures refused { IfErr result (IsUnsolved rows.now cover) }
+{
+    prove!(rows.n() <= MAX_N);
+    let found = cover_of(
+        resources.rt,
+        resources.alloc,
+        &resources.team,
+        rows,
+        resources.open_buckets,
+    )?;
+    Ok(found)
+}
