@@ -1,5 +1,5 @@
 //! The task `kcore`: the coreness and the level of each vertex of a symmetric graph.
-ghost use Rattle.std.specs.Prelude.{IfOk, IfErr, OnOk};
+ghost use Rattle.std.specs.Prelude.{IfOk, IfErr, OnOk, IsTrue};
 ghost use Rattle.jul_base.specs.Symmetry.{IsSymmetric};
 ghost use Rattle.jul_witness.specs.Lawful.{AreLawfulCores};
 ghost use Rattle.jul_witness.specs.declared.witnesses.Witness.TheVariants as results;
@@ -16,22 +16,30 @@ use jul_rows::Rows;
 use std::thread::Threads;
 
 // Whether the graph is symmetric, or the refusal of its first asymmetric place.
-fn check_symmetry(rows: &Rows) -> Result<(), Status>
+fn check_symmetry(rows: &Rows, is_symmetric: bool) -> Result<(), Status>
+    requires { IsTrue is_symmetric → IsSymmetric rows.now }
+
     ensures suited { OnOk result (IsSymmetric rows.now × IsSuited rows.now cores) }
     ensures refused { IfErr result (IsUnsolved rows.now cores) }
 {
     prove!(rows.n() <= MAX_N);
+    if is_symmetric {
+        return Ok(());
+    }
     match rows.first_asymmetry()? {
         None => Ok(()),
         Some(place) => Err(Status::Asymmetric { place }),
     }
 }
 
-/// The coreness and the level of each vertex, or why there are none.
+/// The coreness and the level of each vertex, or why there are none. A graph that is known to be symmetric isn't tested.
 pub fn find_cores<R: Threads + Sync, G: Gate>(
     resources: &Resources<'_, '_, R, G>,
     rows: &Rows,
+    is_symmetric: bool,
 ) -> Result<Cores, Status>
+    requires { IsTrue is_symmetric → IsSymmetric rows.now }
+
     ensures suited { OnOk result (IsSuited rows.now cores) }
     ensures values { IfOk result (λ found. AreValues rows.now cores found.core) }
     ensures whole { IfOk result (λ found. IsResult rows.now cores (results.Cores found)) }
@@ -39,7 +47,7 @@ pub fn find_cores<R: Threads + Sync, G: Gate>(
     ensures refused { IfErr result (IsUnsolved rows.now cores) }
 {
     prove!(rows.n() <= MAX_N);
-    check_symmetry(rows)?;
+    check_symmetry(rows, is_symmetric)?;
     let found = cores_of(
         resources.rt,
         resources.alloc,

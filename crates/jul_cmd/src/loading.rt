@@ -1,7 +1,8 @@
 //! The files that a query names.
-ghost use Rattle.std.specs.Prelude.{◌+◌, ◌≤◌, length, Ok, IfOk, IfErr};
+ghost use Rattle.std.specs.Prelude.{◌+◌, ◌≤◌, length, Ok, IfOk, IfErr, IsTrue};
 ghost use Rattle.jul_base.specs.declared.limits.TheConstants.{MAX_BYTES};
 ghost use Rattle.jul_base.specs.Loading.{IsLoaded};
+ghost use Rattle.jul_base.specs.Symmetry.{IsSymmetric};
 ghost use Rattle.jul_witness.specs.Lawful.{IsLawful};
 ghost use Rattle.jul_query.specs.Asking.{input_of};
 ghost use Rattle.jul_query.specs.Ranges.{IsInputInRange};
@@ -61,23 +62,43 @@ fn load_graph<R: Threads + Sync, G: Gate, F: Shelf>(
     Ok(Rows::of(graph))
 }
 
-/// The rows of the graph that an input stands for, or why there is none.
+/// A graph that was read or made.
+#[derive(Drop)]
+pub struct Loaded {
+    /// Its rows.
+    pub rows: Rows,
+    /// Whether it is known to be symmetric; a no says nothing.
+    pub is_symmetric: bool,
+}
+
+/// The graph that an input stands for, or why there is none. A generated graph is known to be symmetric.
 pub fn load_input<R: Threads + Sync, G: Gate, F: Shelf>(
     resources: &Resources<'_, '_, R, G>,
     input: Input<'_>,
     files: &mut F,
-) -> Result<Rows, Status>
+) -> Result<Loaded, Status>
     requires { IsInputInRange input }
 
-    ensures rows { IfOk result (IsInputRead (input_of input.entry) (F.state files.old) (F.state files.new)) }
+    ensures rows { IfOk result (λ loaded.
+        IsInputRead (input_of input.entry) (F.state files.old) (F.state files.new) loaded.rows) }
+    ensures symmetric { IfOk result (λ loaded. IsTrue loaded.is_symmetric → IsSymmetric loaded.rows) }
     ensures refused { IfErr result (IsInputUnread (input_of input.entry) (F.state files.old) (F.state files.new)) }
     ensures faults { (F.state files.old).faults ≤ (F.state files.new).faults }
 {
     match input {
-        Input::GraphFile(name) => load_graph(resources, name, files),
+        Input::GraphFile(name) => {
+            let rows = load_graph(resources, name, files)?;
+            Ok(Loaded {
+                rows,
+                is_symmetric: false,
+            })
+        }
         Input::Generated { n, pairs, seed } => {
             let graph = generate(resources.alloc, n, pairs, seed)?;
-            Ok(Rows::of(graph))
+            Ok(Loaded {
+                rows: Rows::of(graph),
+                is_symmetric: true,
+            })
         }
     }
 }

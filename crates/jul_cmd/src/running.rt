@@ -34,10 +34,11 @@ fn find_reply<R: Threads + Sync, G: Gate, F: Shelf>(
     ensures writable { IfOk result (λ reply. IsWritable reply.text) }
     ensures refused { IfErr result (IsRefused (asked_by query.entry) (F.state files.old) (F.state files.new)) }
 {
-    let rows = load_input(resources, query.input, files)?;
+    let loaded = load_input(resources, query.input, files)?;
+    let rows = &loaded.rows;
     match query.work {
-        Work::Solve(problem, form) => solve(resources, &rows, problem, form),
-        Work::Check { witness, source } => check(resources.alloc, &rows, witness, source, files),
+        Work::Solve(problem, form) => solve(resources, rows, loaded.is_symmetric, problem, form),
+        Work::Check { witness, source } => check(resources.alloc, rows, witness, source, files),
     }
 }
 

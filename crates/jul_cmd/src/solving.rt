@@ -1,5 +1,6 @@
 //! The tasks that solve a problem: a module each, which finds the columns of a result.
-ghost use Rattle.std.specs.Prelude.{IfOk, IfErr, OnOk};
+ghost use Rattle.std.specs.Prelude.{IfOk, IfErr, OnOk, IsTrue};
+ghost use Rattle.jul_base.specs.Symmetry.{IsSymmetric};
 ghost use Rattle.jul_witness.specs.Lawful.{IsLawful};
 ghost use Rattle.jul_query.specs.Queries.{whole, bare};
 ghost use Rattle.jul_query.specs.Ranges.{IsProblemInRange};
@@ -25,9 +26,11 @@ use std::thread::Threads;
 fn find_column<R: Threads + Sync, G: Gate>(
     resources: &Resources<'_, '_, R, G>,
     rows: &Rows,
+    is_symmetric: bool,
     problem: Problem,
 ) -> Result<Column, Status>
-    requires { IsProblemInRange problem }
+    requires range { IsProblemInRange problem }
+    requires symmetric { IsTrue is_symmetric → IsSymmetric rows.now }
 
     ensures suited { OnOk result (IsSuited rows.now (problem_of problem)) }
     ensures found { IfOk result (AreValues rows.now (problem_of problem)) }
@@ -36,7 +39,7 @@ fn find_column<R: Threads + Sync, G: Gate>(
     match problem {
         Problem::Distances { source, delta } => find_distances(resources, rows, source, delta),
         Problem::Cores => {
-            let found = find_cores(resources, rows)?;
+            let found = find_cores(resources, rows, is_symmetric)?;
             Ok(found.core)
         }
         Problem::Cover => {
@@ -50,9 +53,11 @@ fn find_column<R: Threads + Sync, G: Gate>(
 fn find_result<R: Threads + Sync, G: Gate>(
     resources: &Resources<'_, '_, R, G>,
     rows: &Rows,
+    is_symmetric: bool,
     problem: Problem,
 ) -> Result<Witness, Status>
-    requires { IsProblemInRange problem }
+    requires range { IsProblemInRange problem }
+    requires symmetric { IsTrue is_symmetric → IsSymmetric rows.now }
 
     ensures suited { OnOk result (IsSuited rows.now (problem_of problem)) }
     ensures found { IfOk result (IsResult rows.now (problem_of problem)) }
@@ -65,7 +70,7 @@ fn find_result<R: Threads + Sync, G: Gate>(
             Ok(Witness::Distances(found))
         }
         Problem::Cores => {
-            let found = find_cores(resources, rows)?;
+            let found = find_cores(resources, rows, is_symmetric)?;
             Ok(Witness::Cores(found))
         }
         Problem::Cover => {
@@ -79,16 +84,18 @@ fn find_result<R: Threads + Sync, G: Gate>(
 fn solve_bare<R: Threads + Sync, G: Gate>(
     resources: &Resources<'_, '_, R, G>,
     rows: &Rows,
+    is_symmetric: bool,
     problem: Problem,
 ) -> Result<Reply, Status>
-    requires { IsProblemInRange problem }
+    requires range { IsProblemInRange problem }
+    requires symmetric { IsTrue is_symmetric → IsSymmetric rows.now }
 
     ensures done { IfOk result (λ reply.
         IsDone rows.now (problem_of problem) bare reply.status (text_of reply.text)) }
     ensures writable { IfOk result (λ reply. IsWritable reply.text) }
     ensures refused { IfErr result (IsUnsolved rows.now (problem_of problem)) }
 {
-    let column = find_column(resources, rows, problem)?;
+    let column = find_column(resources, rows, is_symmetric, problem)?;
     Ok(Reply {
         status: Status::Done,
         text: Text::Bare(column),
@@ -99,9 +106,11 @@ fn solve_bare<R: Threads + Sync, G: Gate>(
 fn solve_whole<R: Threads + Sync, G: Gate>(
     resources: &Resources<'_, '_, R, G>,
     rows: &Rows,
+    is_symmetric: bool,
     problem: Problem,
 ) -> Result<Reply, Status>
-    requires { IsProblemInRange problem }
+    requires range { IsProblemInRange problem }
+    requires symmetric { IsTrue is_symmetric → IsSymmetric rows.now }
 
     ensures done { IfOk result (λ reply.
         IsDone rows.now (problem_of problem) whole reply.status (text_of reply.text)) }
@@ -109,7 +118,7 @@ fn solve_whole<R: Threads + Sync, G: Gate>(
     ensures refused { IfErr result (IsUnsolved rows.now (problem_of problem)) }
 {
     prove!(rows.n() <= MAX_N);
-    let found = find_result(resources, rows, problem)?;
+    let found = find_result(resources, rows, is_symmetric, problem)?;
     found.is_read_back();
     Ok(Reply {
         status: Status::Done,
@@ -117,14 +126,17 @@ fn solve_whole<R: Threads + Sync, G: Gate>(
     })
 }
 
-/// The result of a problem in its form, ready to be written, or why there is none.
+/// The result of a problem in its form, ready to be written, or why there is none. `is_symmetric` says that the graph is known to
+/// be symmetric.
 pub fn solve<R: Threads + Sync, G: Gate>(
     resources: &Resources<'_, '_, R, G>,
     rows: &Rows,
+    is_symmetric: bool,
     problem: Problem,
     form: Form,
 ) -> Result<Reply, Status>
-    requires { IsProblemInRange problem }
+    requires range { IsProblemInRange problem }
+    requires symmetric { IsTrue is_symmetric → IsSymmetric rows.now }
 
     ensures done { IfOk result (λ reply.
         IsDone rows.now (problem_of problem) (form_of form) reply.status (text_of reply.text)) }
@@ -132,8 +144,8 @@ pub fn solve<R: Threads + Sync, G: Gate>(
     ensures refused { IfErr result (IsUnsolved rows.now (problem_of problem)) }
 {
     match form {
-        Form::Whole => solve_whole(resources, rows, problem),
-        Form::Bare => solve_bare(resources, rows, problem),
-        Form::Summary(task) => solve_summary(resources, rows, problem, task),
+        Form::Whole => solve_whole(resources, rows, is_symmetric, problem),
+        Form::Bare => solve_bare(resources, rows, is_symmetric, problem),
+        Form::Summary(task) => solve_summary(resources, rows, is_symmetric, problem, task),
     }
 }

@@ -1,5 +1,6 @@
 //! The line that sums a result up.
-ghost use Rattle.std.specs.Prelude.{◌≡◌, ◌+◌, ◌≤◌, ◌++◌, [], ◌∷◌, length, IfOk, IfErr, OnOk};
+ghost use Rattle.std.specs.Prelude.{◌≡◌, ◌+◌, ◌≤◌, ◌++◌, [], ◌∷◌, length, IfOk, IfErr, OnOk, IsTrue};
+ghost use Rattle.jul_base.specs.Symmetry.{IsSymmetric};
 ghost use Rattle.jul_base.specs.Graph.{vertices, places};
 ghost use Rattle.jul_witness.specs.Summaries.{named_number, summary_line};
 ghost use Rattle.jul_query.specs.Words.{task_name};
@@ -76,13 +77,16 @@ fn sum_distances<R: Threads + Sync, G: Gate>(
 fn sum_cores<R: Threads + Sync, G: Gate>(
     resources: &Resources<'_, '_, R, G>,
     rows: &Rows,
+    is_symmetric: bool,
     task: Task,
 ) -> Result<Line, Status>
+    requires { IsTrue is_symmetric → IsSymmetric rows.now }
+
     ensures suited { OnOk result (IsSuited rows.now cores) }
     ensures summed { IfOk result (IsSummary rows.now cores (task_name task)) }
     ensures refused { IfErr result (IsUnsolved rows.now cores) }
 {
-    let found = find_cores(resources, rows)?;
+    let found = find_cores(resources, rows, is_symmetric)?;
     let most = greatest_value(&found.core);
     let top = times_in(&found.core, most);
     Ok(line_of(task, rows, b"max", most, b"top", top))
@@ -108,10 +112,12 @@ fn sum_cover<R: Threads + Sync, G: Gate>(
 fn sum_up<R: Threads + Sync, G: Gate>(
     resources: &Resources<'_, '_, R, G>,
     rows: &Rows,
+    is_symmetric: bool,
     problem: Problem,
     task: Task,
 ) -> Result<Line, Status>
-    requires { IsProblemInRange problem }
+    requires range { IsProblemInRange problem }
+    requires symmetric { IsTrue is_symmetric → IsSymmetric rows.now }
 
     ensures suited { OnOk result (IsSuited rows.now (problem_of problem)) }
     ensures summed { IfOk result (IsSummary rows.now (problem_of problem) (task_name task)) }
@@ -121,7 +127,7 @@ fn sum_up<R: Threads + Sync, G: Gate>(
         Problem::Distances { source, delta } => {
             sum_distances(resources, rows, task, source, delta)
         }
-        Problem::Cores => sum_cores(resources, rows, task),
+        Problem::Cores => sum_cores(resources, rows, is_symmetric, task),
         Problem::Cover => sum_cover(resources, rows, task),
     }
 }
@@ -130,17 +136,19 @@ fn sum_up<R: Threads + Sync, G: Gate>(
 pub fn solve_summary<R: Threads + Sync, G: Gate>(
     resources: &Resources<'_, '_, R, G>,
     rows: &Rows,
+    is_symmetric: bool,
     problem: Problem,
     task: Task,
 ) -> Result<Reply, Status>
-    requires { IsProblemInRange problem }
+    requires range { IsProblemInRange problem }
+    requires symmetric { IsTrue is_symmetric → IsSymmetric rows.now }
 
     ensures done { IfOk result (λ reply. IsDone rows.now (problem_of problem) (summary (task_name task))
         reply.status (text_of reply.text)) }
     ensures writable { IfOk result (λ reply. IsWritable reply.text) }
     ensures refused { IfErr result (IsUnsolved rows.now (problem_of problem)) }
 {
-    let line = sum_up(resources, rows, problem, task)?;
+    let line = sum_up(resources, rows, is_symmetric, problem, task)?;
     Ok(Reply {
         status: Status::Done,
         text: Text::Line(line),

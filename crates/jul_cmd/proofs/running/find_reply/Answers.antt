@@ -5,30 +5,30 @@ use Rattle.jul_cmd.proofs.VerdictLaws.{at_err, if_err_weaker}
 use Rattle.jul_cmd.proofs.AnswerLaws.{input_refused, solve_done, solve_refused, checked_done, check_refused}
 use Rattle.jul_cmd.proofs.running.find_reply.Goals as goal
 
-pub returns-in_err-rows-clause-refused : goal.returns-in_err-rows-clause-refused
-returns-in_err-rows-clause-refused g c =
+pub returns-in_err-loaded-clause-refused : goal.returns-in_err-loaded-clause-refused
+returns-in_err-loaded-clause-refused g c =
     at_err _ c.from_residual.result _ c.from_residual.ensures.1
-    (input_refused (input_of c.args.query.input) (work_of c.args.query.work) _ _ _ c.in_err-rows.ensures.refused)
+    (input_refused (input_of c.args.query.input) (work_of c.args.query.work) _ _ _ c.in_err-loaded.ensures.refused)
 
 pub returns-in-Solve-clause-found : goal.returns-in-Solve-clause-found
 returns-in-Solve-clause-found g c =
     IfOk-weaker c.solve.result _ _ (λ reply done.
-    solve_done (input_of c.args.query.input) (work_of c.args.query.work) (problem_of c.in-Solve.problem) (form_of c.in-Solve.form) _ _ c.in_ok-rows.rows _ _ (ap work_of c.in-Solve.is)
-    c.in_ok-rows.ensures.rows done) c.solve.ensures.done
+    solve_done (input_of c.args.query.input) (work_of c.args.query.work) (problem_of c.in-Solve.problem) (form_of c.in-Solve.form) _ _ c.in_ok-loaded.loaded.rows _ _ (ap work_of c.in-Solve.is)
+    c.in_ok-loaded.ensures.rows done) c.solve.ensures.done
 
 pub returns-in-Solve-clause-refused : goal.returns-in-Solve-clause-refused
 returns-in-Solve-clause-refused g c =
     if_err_weaker c.solve.result _ _ (λ status unsolved.
-    solve_refused (input_of c.args.query.input) (work_of c.args.query.work) (problem_of c.in-Solve.problem) (form_of c.in-Solve.form) _ _ c.in_ok-rows.rows status (ap work_of c.in-Solve.is)
-    c.in_ok-rows.ensures.rows unsolved) c.solve.ensures.refused
+    solve_refused (input_of c.args.query.input) (work_of c.args.query.work) (problem_of c.in-Solve.problem) (form_of c.in-Solve.form) _ _ c.in_ok-loaded.loaded.rows status (ap work_of c.in-Solve.is)
+    c.in_ok-loaded.ensures.rows unsolved) c.solve.ensures.refused
 
 pub returns-clause-found : goal.returns-clause-found
 returns-clause-found g c =
-    checked_done (input_of c.args.query.input) (work_of c.args.query.work) _ _ _ c.in_ok-rows.rows c.in-Check.witness.now (named_sources c.in-Check.source) c.check.result (ap work_of c.in-Check.is)
-    c.in_ok-rows.ensures.rows c.check.ensures.given c.check.ensures.found
+    checked_done (input_of c.args.query.input) (work_of c.args.query.work) _ _ _ c.in_ok-loaded.loaded.rows c.in-Check.witness.now (named_sources c.in-Check.source) c.check.result (ap work_of c.in-Check.is)
+    c.in_ok-loaded.ensures.rows c.check.ensures.given c.check.ensures.found
 
 pub returns-clause-refused : goal.returns-clause-refused
 returns-clause-refused g c =
     if_err_weaker c.check.result _ _ (λ status unchecked.
-    check_refused (input_of c.args.query.input) (work_of c.args.query.work) _ _ _ c.in_ok-rows.rows c.in-Check.witness.now (named_sources c.in-Check.source) status (ap work_of c.in-Check.is)
-    c.load_input.ensures.faults c.in_ok-rows.ensures.rows unchecked) c.check.ensures.refused
+    check_refused (input_of c.args.query.input) (work_of c.args.query.work) _ _ _ c.in_ok-loaded.loaded.rows c.in-Check.witness.now (named_sources c.in-Check.source) status (ap work_of c.in-Check.is)
+    c.load_input.ensures.faults c.in_ok-loaded.ensures.rows unchecked) c.check.ensures.refused
