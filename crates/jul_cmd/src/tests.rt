@@ -2,6 +2,7 @@
 use crate::{Status, Which, run};
 use jul_base::{Gate, MemShelf, MemSink, OpenGate};
 use std::alloc::{AllocError, Global};
+use std::process::Abort;
 use std::sync::atomic::{AtomicU64, Ordering};
 use std::test::Fail;
 use std::thread::Threads;
@@ -285,26 +286,45 @@ fn other_words_are_not_taken(rt: HostRuntime) -> Result<(), Fail> {
     Ok(())
 }
 
-#[test]
-fn failing_objects_are_told(rt: HostRuntime) -> Result<(), Fail> {
-    let words = ["wbfs", "--bare", "--source", "0", "g"];
-    let files = [("g", TWO_WAYS)];
-    let missing = trial_of(&words, &[("other", TWO_WAYS)]);
-    let mut unread = trial_of(&words, &files);
+/// Ends the test where a missing file, a failed read, a failed write or a failed message is told otherwise.
+fn expect_told<R: Threads + Sync + Abort>(
+    rt: &R,
+    alloc: Global,
+    missing: &Trial<'_>,
+    found: &Trial<'_>,
+    part: &str,
+) -> Result<(), AllocError> {
+    let mut unread = *found;
     unread.read_fails = 3;
-    for trial in [missing, unread] {
-        let outcome = outcome_of(&rt, rt.alloc(), &trial)?;
+    for trial in [*missing, unread] {
+        let outcome = outcome_of(rt, alloc, &trial)?;
         assert_eq!(rt; outcome.status, Status::ReadFault { file: Which::Graph });
         assert_eq!(rt; outcome.out.len(), 0);
         assert_eq!(rt; outcome.err.as_slice(), b"read fault: graph\n".as_slice());
     }
-    let mut unwritten = trial_of(&words, &files);
+    let mut unwritten = *found;
     unwritten.write_fails = 2;
-    unwritten.message_fails = 1;
-    let outcome = outcome_of(&rt, rt.alloc(), &unwritten)?;
+    let outcome = outcome_of(rt, alloc, &unwritten)?;
     assert_eq!(rt; outcome.status, Status::WriteFault);
-    assert_eq!(rt; outcome.out.as_slice(), b"0\n3\n".as_slice());
+    assert_eq!(rt; outcome.out.as_slice(), part.as_bytes());
+    assert_eq!(rt; outcome.err.as_slice(), b"write fault\n".as_slice());
+    unwritten.message_fails = 1;
+    let outcome = outcome_of(rt, alloc, &unwritten)?;
+    assert_eq!(rt; outcome.status, Status::WriteFault);
     assert_eq!(rt; outcome.err.len(), 0);
+    Ok(())
+}
+
+#[test]
+fn failing_objects_are_told(rt: HostRuntime) -> Result<(), Fail> {
+    let words = ["wbfs", "--bare", "--source", "0", "g"];
+    let missing = trial_of(&words, &[("other", TWO_WAYS)]);
+    let found = trial_of(&words, &[("g", TWO_WAYS)]);
+    expect_told(&rt, rt.alloc(), &missing, &found, "0\n3\n")?;
+    let words = ["kcore", "g"];
+    let missing = trial_of(&words, &[("other", TRIANGLE)]);
+    let found = trial_of(&words, &[("g", TRIANGLE)]);
+    expect_told(&rt, rt.alloc(), &missing, &found, "Core")?;
     Ok(())
 }
 
@@ -349,6 +369,14 @@ fn results_are_written_whole_and_bare(rt: HostRuntime) -> Result<(), Fail> {
             0,
             "Distances\n4\n0 0 -\n7 2 2\n1 1 0\n12 3 1\n",
         ),
+        (["cover", "g"].as_slice(), NOTHING, 0, "Cover\n0\n"),
+        (
+            ["cover", "g"].as_slice(),
+            "AdjacencyGraph 2 0 0 0",
+            0,
+            "Cover\n2\n- -\n- -\n",
+        ),
+        (["cover", "g"].as_slice(), LOOP, 0, "Cover\n1\n0 0\n"),
         (
             ["cover", "g"].as_slice(),
             TWO_SETS,
@@ -440,5 +468,52 @@ fn the_engines_work_through_the_pool(rt: HostRuntime) -> Result<(), Fail> {
         let passes = passes_of(&rt, rt.alloc(), &trial_of(words, &files))?;
         assert!(rt; passes >= least, "{file}");
     }
+    Ok(())
+}
+
+#[test]
+fn trees_are_made_for_whole_texts_alone(rt: HostRuntime) -> Result<(), Fail> {
+    let words = [
+        "delta",
+        "g",
+        "--delta",
+        "10",
+        "--workers",
+        "2",
+        "--chunk",
+        "1",
+        "--bare",
+    ];
+    let files = [("g", LOWERED_TWICE)];
+    let bare = passes_of(&rt, rt.alloc(), &trial_of(&words, &files))?;
+    let words = [
+        "delta",
+        "g",
+        "--delta",
+        "10",
+        "--workers",
+        "2",
+        "--chunk",
+        "1",
+    ];
+    let whole = passes_of(&rt, rt.alloc(), &trial_of(&words, &files))?;
+    assert!(rt; whole >= bare && whole - bare >= 3);
+    Ok(())
+}
+
+#[test]
+fn a_large_demo_works_through_the_pool(rt: HostRuntime) -> Result<(), Fail> {
+    let words = [
+        "demo", "kcore", "--n", "100000", "--pairs", "500000", "--seed", "7", "--chunk", "1",
+    ];
+    let files = [("g", LOOP)];
+    let trial = trial_of(&words, &files);
+    let passes = passes_of(&rt, rt.alloc(), &trial)?;
+    assert!(rt; passes >= 90_000);
+    let outcome = outcome_of(&rt, rt.alloc(), &trial)?;
+    assert_eq!(rt;
+        outcome.out.as_slice(),
+        b"kcore n 100000 m 1000000 max 7 top 74449\n".as_slice()
+    );
     Ok(())
 }
