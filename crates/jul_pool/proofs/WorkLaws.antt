@@ -11,7 +11,7 @@ use Rattle.jul_pool.specs.Added.{HasAdded, followed_by_all}
 use Rattle.jul_base.specs.Times.{times}
 use Rattle.jul_pool.specs.Claims.{after_take, part_view}
 use Rattle.jul_pool.specs.Runs.{Run, Did}
-use Rattle.jul_pool.specs.Workers.{HasWorked, IsLent, IsWorked}
+use Rattle.jul_pool.specs.Workers.{CanWork, HasWorked, IsLent, IsWorked}
 use Rattle.jul_base.proofs.TimesLaws.{times-append, times_here, times_other}
 use Rattle.jul_pool.proofs.RunLaws.{followed_by_all-append, did_none, did_more}
 
@@ -118,6 +118,15 @@ module _ {T J G Out : Type 0} (log : T → Log) (home : T → List Home) (is_roo
         chunks_are = w.chunks_are ∙ (ap (λ m. m.0.chunks ++ map (λ p. p.0) w.more) me ∙ sym (ap (map (λ p. p.0)) (w.done_is ∙ ap (λ d. d ++ w.more) none)));
       }
 
+  -- who was lent a seat and a token may work
+  pub lent_can_work : (can_run : J → ℕ → List Home → Type 0) (l : Lent T) (a : Worked T Out) → IsLent log home is_root {Out = Out} round (home l.token) l → a.seat ≡ l.seat → a.token ≡ l.token → ((chunk : ℕ) → chunk < round.board.now.chunks → can_run round.job.now chunk (home l.token)) → CanWork home can_run round a
+  lent_can_work can_run l a lent seat token condition =
+      let part : a.seat.me.0.part ≡ 1 = ap (λ s. s.me.0.part) seat ∙ ap (λ m. m.0.part) lent.seat_is in record {
+        table_is = ap (λ s. s.table_id) seat ∙ lent.table_is;
+        live = omega arith;
+        condition = λ chunk h. subst (λ t. can_run round.job.now chunk (home t)) (sym token) (condition chunk h);
+      }
+
 -- what was run before, and then what was worked
 module _ {T Out : Type 0} (log : T → Log) (home : T → List Home) (is_root : T → Bool) (out : T → ℕ) (gives : ℕ → Out → Log → Type 0) (chunks : ℕ) where
   pub did_worked : (start : Log) (a b : Worked T Out) → HasWorked log home is_root out gives chunks a b → Did gives chunks start (log a.token) a.done.items → Did gives chunks start (log b.token) b.done.items
@@ -125,3 +134,12 @@ module _ {T Out : Type 0} (log : T → Log) (home : T → List Home) (is_root : 
 
   pub listed_worked : (a b : Worked T Out) → HasWorked log home is_root out gives chunks a b → a.seat.me.0.chunks ≡ map (λ p. p.0) a.done.items → b.seat.me.0.chunks ≡ map (λ p. p.0) b.done.items
   listed_worked a b w same = w.chunks_are ∙ (ap (λ l. l ++ map (λ p. p.0) w.more) same ∙ (sym (map-append (λ p. p.0) a.done.items w.more) ∙ sym (ap (map (λ p. p.0)) w.done_is)))
+
+-- who may work may go on working
+pub can_still_work : {T J G Out : Type 0} (log : T → Log) (home : T → List Home) (is_root : T → Bool) (out : T → ℕ) (gives : ℕ → Out → Log → Type 0) (can_run : J → ℕ → List Home → Type 0) (round : Round J G T Out) (a b : Worked T Out) → CanWork home can_run round a → HasWorked log home is_root out gives round.board.now.chunks a b
+    → CanWork home can_run round b
+can_still_work log home is_root out gives can_run round a b can w = record {
+  table_is = w.table_is ∙ can.table_is;
+  live = omega (arith, w.seat_root, w.seat_part, can.live);
+  condition = λ chunk h. subst (can_run round.job.now chunk) (sym w.home_is) (can.condition chunk h);
+}

@@ -1,5 +1,5 @@
 -- What a worker is lent, what it does, and what it gives back.
-use Rattle.std.specs.Prelude.{ℕ, List, [], ◌++◌, ◌≡◌, Bool, false, map}
+use Rattle.std.specs.Prelude.{ℕ, ◌+◌, ◌<◌, List, [], ◌++◌, ◌≡◌, Bool, false, map}
 use Rattle.jul_base.specs.Logs.{Log, Home, empty_log}
 use Rattle.crossbeam_deque.specs.Handles.{worker_view}
 use Rattle.jul_pool.specs.Claims.{part_view}
@@ -8,6 +8,12 @@ use Rattle.jul_pool.specs.Runs.{Did}
 use Rattle.jul_pool.specs.declared.rounds.Lent.{Lent}
 use Rattle.jul_pool.specs.declared.rounds.Round.{Round}
 use Rattle.jul_pool.specs.declared.rounds.Worked.{Worked}
+
+-- a live seat of the table of this round, and a token with which the job may run each chunk
+pub record CanWork {T J G Out : Type 0} (home : T → List Home) (can_run : J → ℕ → List Home → Type 0) (round : Round J G T Out) (w : Worked T Out) : Type 0 where
+  pub table_is : w.seat.table_id ≡ round.board.now.table.shared.table_id
+  pub live : 0 < w.seat.me.0.root + w.seat.me.0.part
+  pub condition : (chunk : ℕ) → chunk < round.board.now.chunks → can_run round.job.now chunk (home w.token)
 
 module _ {T : Type 0} (log : T → Log) (home : T → List Home) (is_root : T → Bool) where
   -- chunks were taken and run, and stand in the seat's list, among the results and in the log in one order

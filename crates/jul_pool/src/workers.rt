@@ -2,7 +2,7 @@
 //! seat took.
 ghost use Rattle.std.specs.Prelude.{◌≡◌, ◌≢◌, ℕ, ◌+◌, ◌<◌, ◌≤◌, IfOk, OnOk};
 ghost use Rattle.jul_base.specs.Times.{times};
-ghost use Rattle.jul_pool.specs.Workers.{IsLent, IsWorked, HasWorked};
+ghost use Rattle.jul_pool.specs.Workers.{CanWork, IsLent, IsWorked, HasWorked};
 
 use crate::chunk_runs::run_chunk;
 use crate::deques::{Deque, Hand, pop, push_range};
@@ -19,10 +19,7 @@ pub fn take_and_run<J: Job, G: Gate>(
     chunk: u32,
     me: &mut Worked<J::Token, J::Out>,
 ) -> Result<(), AllocError>
-    requires table { me.old.seat.table_id ≡ round.now.board.now.table.shared.table_id }
-    requires live { 0 < me.old.seat.me.0.root + me.old.seat.me.0.part }
-    requires condition { chunk < round.now.board.now.chunks →
-        J.can_run round.now.job.now chunk (J.Token.home me.old.token) }
+    requires able { CanWork J.Token.home J.can_run round.now me.old }
 
     ensures worked { OnOk result (HasWorked J.Token.log J.Token.home J.Token.is_root J.Token.out
         (J.gives round.now.job.now) round.now.board.now.chunks me.old me.new) }
@@ -77,10 +74,7 @@ fn run_own<J: Job, G: Gate>(
     deque: &mut Deque,
     me: &mut Worked<J::Token, J::Out>,
 ) -> Result<(), AllocError>
-    requires table { me.old.seat.table_id ≡ round.now.board.now.table.shared.table_id }
-    requires live { 0 < me.old.seat.me.0.root + me.old.seat.me.0.part }
-    requires condition { (chunk : ℕ) → chunk < round.now.board.now.chunks →
-        J.can_run round.now.job.now chunk (J.Token.home me.old.token) }
+    requires able { CanWork J.Token.home J.can_run round.now me.old }
 
     ensures { OnOk result (HasWorked J.Token.log J.Token.home J.Token.is_root J.Token.out
         (J.gives round.now.job.now) round.now.board.now.chunks me.old me.new) }

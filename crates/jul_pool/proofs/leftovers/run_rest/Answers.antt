@@ -1,7 +1,8 @@
 use Rattle.std.proofs.Common.{◌≡◌, ◌∙◌, ◌<◌, arith, ap, sym, subst, map, All, false, nat_lt}
 use Rattle.std.proofs.lemmas.List.{get_or_read}
 use Rattle.jul_base.specs.Times.{times}
-use Rattle.jul_pool.proofs.WorkLaws.{worked_none, worked_then}
+use Rattle.jul_pool.specs.Workers.{CanWork}
+use Rattle.jul_pool.proofs.WorkLaws.{worked_none, worked_then, can_still_work}
 use Rattle.jul_pool.proofs.LeftoverLaws.{left_none, left_had, left_took, firsts_small, none_there, some_there}
 use Rattle.jul_pool.proofs.leftovers.run_rest.Goals as goal
 
@@ -36,3 +37,9 @@ loop-chunk-preserved g c =
       worked = worked_then share.log share.home share.is_root share.out (g.J.Job.gives c.args.round.now.job.now) c.args.round.now.board.now.chunks _ c.loop-chunk.lead c.take_and_run.new.me was.worked made.worked;
       left = left_took c.loop-chunk.chunk _ _ _ was.left (made.alone (was.worked.seat_root ∙ c.requires.root) (was.worked.seats_out ∙ c.requires.none_out) c.loop-chunk-test.true fresh) made.others;
     }
+
+pub take_and_run-requires-clause-able : goal.take_and_run-requires-clause-able
+take_and_run-requires-clause-able g c κs h =
+    let share = g.J.Token.Share in
+    let able : CanWork share.home g.J.Job.can_run c.args.round.now c.args.lead.now = record { table_is = c.requires.table; live = omega (arith, c.requires.root); condition = c.requires.condition } in
+    can_still_work share.log share.home share.is_root share.out (g.J.Job.gives c.args.round.now.job.now) g.J.Job.can_run c.args.round.now c.args.lead.now c.loop-chunk.lead able c.loop-chunk.invariant.worked

@@ -24,3 +24,12 @@ returns-clause-alone g c root none_out near fresh =
 
 pub returns-clause-others : goal.returns-clause-others
 returns-clause-others g c x ne = ap (λ m. times x m.0.chunks) c.take.ensures.taken ∙ times_else c.args.me.now.seat.me.0 c.args.chunk c.take.result x ne
+
+pub take-requires-clause-table : goal.take-requires-clause-table
+take-requires-clause-table g c = c.requires.able.table_is
+
+pub take-requires-clause-live : goal.take-requires-clause-live
+take-requires-clause-live g c = c.requires.able.live
+
+pub run_chunk-requires-clause-condition : goal.run_chunk-requires-clause-condition
+run_chunk-requires-clause-condition g c κs h = c.requires.able.condition c.args.chunk (c.take.ensures.on_board c.if-not-take.false)
