@@ -7,7 +7,7 @@ use Rattle.jul_base.proofs.LogLaws.{followed_by-assoc}
 use Rattle.jul_pool.specs.Added.{followed_by_all}
 use Rattle.jul_base.specs.Times.{times, EachOnceBelow}
 use Rattle.jul_pool.specs.Runs.{Run, IsRun, EachRunOnce, Did}
-use Rattle.jul_base.proofs.TimesLaws.{times-append, times_here, times_other}
+use Rattle.jul_base.proofs.TimesLaws.{times-append, times_other}
 use Rattle.jul_pool.proofs.RunLaws.{followed_by_all-append}
 
 -- what was put behind one log can be put behind another that the first one follows
@@ -21,23 +21,12 @@ followed_by-empty [] (h ∷ hs) e = absurd (omega arith)
 followed_by-empty (x ∷ xs) [] e = absurd (omega arith)
 followed_by-empty (x ∷ xs) (h ∷ hs) e = let r : followed_by xs (empty_log hs) ≡ xs = followed_by-empty xs hs (omega arith) in let n : x ++ [] ≡ x = append-nil x in cc
 
-module _ {Out : Type 0} where
-  abbrev firsts : List (ℕ × Out) → List ℕ
-  firsts ps = map (λ p. p.0) ps
+abbrev pub firsts : {Out : Type 0} → List (ℕ × Out) → List ℕ
+firsts ps = map (λ p. p.0) ps
 
-  -- of the chunks, the root has claimed those that were done, and so it is with one worker's more
-  pub claims_more : (chunks end : ℕ) (old more new : List ℕ) (done theirs : List (ℕ × Out)) → new ≡ old ++ more → more ≡ firsts theirs ++ end ∷ [] → chunks ≤ end → (x : ℕ) → x < chunks → times x old ≡ times x (firsts done) → times x new ≡ times x (firsts (done ++ theirs))
-  claims_more chunks end old more new done theirs e f past x small was =
-      let a : times x new ≡ times x (old ++ more) = ap (times x) e in
-      let b : times x more ≡ times x (firsts theirs ++ end ∷ []) = ap (times x) f in
-      let d : times x (firsts (done ++ theirs)) ≡ times x (firsts done ++ firsts theirs) = ap (times x) (map-append (λ p. p.0) done theirs) in
-      omega (arith, a, b, d, times-append x old more, times-append x (firsts theirs) (end ∷ []), times-append x (firsts done) (firsts theirs), times_other x end (omega arith), was)
-
-  pub ended_more : (end : ℕ) (old more new : List ℕ) (theirs : List (ℕ × Out)) → new ≡ old ++ more → more ≡ firsts theirs ++ end ∷ [] → 0 < times end new
-  ended_more end old more new theirs e f =
-      let a : times end new ≡ times end (old ++ more) = ap (times end) e in
-      let b : times end more ≡ times end (firsts theirs ++ end ∷ []) = ap (times end) f in
-      omega (arith, a, b, times-append end old more, times-append end (firsts theirs) (end ∷ []), times_here end end refl)
+-- the root's chunks are those that were done, and so it is with one worker's more
+pub chunks_more : {Out : Type 0} (old more new : List ℕ) (done theirs : List (ℕ × Out)) → new ≡ old ++ more → old ≡ firsts done → more ≡ firsts theirs → new ≡ firsts (done ++ theirs)
+chunks_more old more new done theirs e was is = e ∙ (ap (λ l. l ++ more) was ∙ (ap (λ l. firsts done ++ l) is ∙ sym (map-append (λ p. p.0) done theirs)))
 
 module _ {Out : Type 0} (gives : ℕ → Out → Log → Type 0) where
   abbrev Small : ℕ → Run Out → Type 0
@@ -61,19 +50,12 @@ module _ {Out : Type 0} (gives : ℕ → Out → Log → Type 0) where
       let small : r.chunk < chunks = (a 0 r (omega arith)).0 in
       omega (arith, times-append x (r.chunk ∷ []) (firsts (map (λ (r : Run Out). (r.chunk, r.out)) runs)), times_other x r.chunk (omega arith), small_times chunks x runs (λ k d l. a (suc k) d (omega arith)) h)
 
-  -- a number past the chunks was claimed, so all chunks were claimed, each once, and all of them were done
-  pub each_once_done : (chunks word workers : ℕ) (claimed : List ℕ) (start new : Log) (done : List (ℕ × Out)) → EachOnceBelow word claimed → ((x : ℕ) → x < chunks → times x claimed ≡ times x (firsts done)) → (0 < workers → (n : ℕ) × (chunks ≤ n) × (0 < times n claimed)) → 0 < workers → Did gives chunks start new done
-      → EachOnceBelow chunks (firsts done)
-  each_once_done chunks word workers claimed start new done o same ended some d = record {
-    once = λ x h. sym (same x h) ∙ o.once x (past x h);
-    no_other = λ x h. ap (λ l. times x (firsts l)) (sym d.done_is) ∙ small_times chunks x d.runs d.each h;
+  -- each chunk was done, and none twice
+  pub each_once_done : (chunks : ℕ) (taken : List ℕ) (start new : Log) (done : List (ℕ × Out)) → taken ≡ firsts done → ((x : ℕ) → times x taken ≤ 1) → ((x : ℕ) → x < chunks → 0 < times x taken) → Did gives chunks start new done → EachOnceBelow chunks (firsts done)
+  each_once_done chunks taken start new done same once all d = subst (EachOnceBelow chunks) same record {
+    once = λ x h. omega (arith, once x, all x h);
+    no_other = λ x h. ap (times x) same ∙ (ap (λ l. times x (firsts l)) (sym d.done_is) ∙ small_times chunks x d.runs d.each h);
   }
-    where
-      below : (n x : ℕ) → x < chunks → chunks ≤ n → 0 < times n claimed → x < word
-      below n x h le t = grind (arith, o.no_other n)
-
-      past : (x : ℕ) → x < chunks → x < word
-      past x h = let n = ended some in below n.0 x h n.1 n.2
 
   stored_each : (chunks : ℕ) (outs : List Out) (runs : List (Run Out)) → All (Small chunks) runs → All (λ (p : ℕ × Out). slice_get outs p.0 ≡ Some p.1) (map (λ (r : Run Out). (r.chunk, r.out)) runs) → All (IsRun gives outs) runs
   stored_each chunks outs [] a b k d h = absurd (omega arith)

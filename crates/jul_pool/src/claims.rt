@@ -1,60 +1,65 @@
-//! The board on which chunks are claimed: each claim gets a number that no other claim gets.
+//! The board on which chunks are taken: a chunk is given to one seat and to no other.
 //!
-//! The root seat opens and closes the board and claims nothing. A seat that was split off claims until it gets a
-//! number that isn't below the number of chunks. Between any two steps the rule of `claim_rule` holds.
-ghost use Rattle.std.specs.Prelude.{◌≡◌, ℕ, ◌+◌, ◌<◌, ◌≤◌, ◌^◌, [], ◌++◌, ◌∷◌, IfOk};
-ghost use Rattle.jul_pool.specs.Claims.{root_view, part_view, with_claim, with_part, joined, end_numbers};
-ghost use Rattle.jul_base.specs.Times.{times, EachOnceBelow};
+//! Between any two steps the rule of `claim_rule` holds.
+ghost use Rattle.std.specs.Prelude.{◌≡◌, ℕ, ◌+◌, ◌<◌, ◌≤◌, ◌^◌, [], true, IfOk};
+ghost use Rattle.jul_pool.specs.Claims.{root_view, part_view, after_take, with_part, joined};
+ghost use Rattle.jul_base.specs.Times.{times};
 
-use crate::claim_rule::{Claim, ClaimRule, Lend, Return, View};
+use crate::claim_rule::{ClaimRule, Lend, Return, Take, View};
 use atomic_table::Table;
 use std::alloc::{AllocError, Global};
 
-/// The value through which one thread claims. It takes no bytes.
+/// The value through which one thread takes chunks. It takes no bytes.
 pub type Seat = atomic_table::Seat<u8, View>;
 
-/// The word from which numbers are claimed.
+/// A word for each chunk, which says whether the chunk was taken.
 #[derive(Drop)]
 pub struct Board {
-    table: Table<u8, View, u64, ClaimRule, Global>,
-    ghost two_words: { table.shared.table_id.words ≡ 2 },
+    table: Table<u8, View, u32, ClaimRule, Global>,
+    pub chunks: u32,
+    ghost word_for_each: { table.shared.table_id.words ≡ chunks + 1 },
+    ghost key_is: { table.shared.key ≡ chunks },
     ghost no_slots: { table.shared.table_id.slots ≡ 0 },
 }
 
 impl Board {
-    /// A board for this number of chunks, with its root seat.
-    pub fn open(alloc: Global, chunks: u64) -> Result<(Board, Seat), AllocError>
+    /// A board for this number of chunks, of which none is taken, with its root seat.
+    pub fn open(alloc: Global, chunks: u32) -> Result<(Board, Seat), AllocError>
         ensures table { IfOk result (λ r. r.1.table_id ≡ r.0.table.shared.table_id) }
-        ensures root { IfOk result (λ r. r.1.me ≡ (root_view chunks, [])) }
+        ensures chunks { IfOk result (λ r. r.0.chunks ≡ chunks) }
+        ensures root { IfOk result (λ r. r.1.me ≡ (root_view, [])) }
     {
-        let (table, seat) = Table::of_words(alloc, &[0, 0], &chunks)?;
-        Ok((Board { table }, seat))
+        let words = vec![in alloc; 0u64; chunks as usize + 1]?;
+        let (table, seat) = Table::of_words(alloc, words.as_slice(), &chunks)?;
+        Ok((Board { table, chunks }, seat))
     }
 
-    /// Claims a number, in one step.
-    pub fn claim(&self, seat: &mut Seat) -> u64
+    /// Takes a chunk, in one step. The answer is whether it is this seat's: it is on the board, and no seat had taken it.
+    #[inline]
+    pub fn take(&self, seat: &mut Seat, chunk: u32) -> bool
         requires table { seat.old.table_id ≡ self.now.table.shared.table_id }
-        requires few { seat.old.me.0.chunks < 2 ^ 32 }
-        requires part { (seat.old.me.0.root ≡ 0) × (seat.old.me.0.part ≡ 1) }
-        requires no_end { end_numbers seat.old.me.0.chunks seat.old.me.0.claimed ≡ 0 }
+        requires live { 0 < seat.old.me.0.root + seat.old.me.0.part }
 
         ensures table { seat.new.table_id ≡ seat.old.table_id }
-        ensures claimed { seat.new.me ≡ (with_claim seat.old.me.0 result, seat.old.me.1) }
-        ensures near { result < seat.old.me.0.chunks + 64 }
-        ensures above { (x : ℕ) → result ≤ x → times x seat.old.me.0.claimed ≡ 0 }
+        ensures taken { seat.new.me ≡ (after_take seat.old.me.0 chunk result, seat.old.me.1) }
+        ensures on_board { result ≡ true → chunk < self.now.chunks }
+        ensures alone { seat.old.me.0.root ≡ 1 → seat.old.me.0.out ≡ 0 → chunk < self.now.chunks →
+            times chunk seat.old.me.0.chunks ≡ 0 → result ≡ true }
     {
-        self.table.shared.fetch_add::<Claim>(seat, 1, 1)
+        if chunk >= self.chunks {
+            return false;
+        }
+        self.table.shared.swap::<Take>(seat, chunk as usize + 1, 1) == 0
     }
 
     /// A seat for another thread.
     pub fn split(&self, seat: &mut Seat) -> Seat
         requires table { seat.old.table_id ≡ self.now.table.shared.table_id }
         requires root { seat.old.me.0.root ≡ 1 }
-        requires room { seat.old.me.0.out + end_numbers seat.old.me.0.chunks seat.old.me.0.claimed < 64 }
 
         ensures table { (seat.new.table_id ≡ seat.old.table_id) × (result.table_id ≡ seat.old.table_id) }
         ensures root { seat.new.me ≡ (with_part seat.old.me.0, seat.old.me.1) }
-        ensures part { result.me ≡ (part_view seat.old.me.0.chunks, []) }
+        ensures part { result.me ≡ (part_view, []) }
     {
         self.table.shared.split_seat::<Lend>(seat)
     }
@@ -72,18 +77,15 @@ impl Board {
         self.table.shared.join_seat::<Return>(seat, other);
     }
 
-    /// Closes the board once every seat is back, and answers the next number. The numbers below it were claimed.
-    pub fn close(self, seat: Seat) -> u64
+    /// Closes the board once every seat is back. No chunk was taken twice.
+    pub fn close(self, seat: Seat)
         requires table { seat.table_id ≡ self.table.shared.table_id }
         requires root { seat.me.0.root ≡ 1 }
         requires none_out { seat.me.0.out ≡ 0 }
 
-        ensures { EachOnceBelow result seat.me.0.claimed }
+        ensures { (chunk : ℕ) → times chunk seat.me.0.chunks ≤ 1 }
     {
-        let Board { table } = self;
-        let closed = table.close_with(seat);
-        let word = closed.word(1);
-        closed.free();
-        word
+        let Board { table, chunks: _ } = self;
+        table.close_with(seat).free();
     }
 }

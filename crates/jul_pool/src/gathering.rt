@@ -1,13 +1,12 @@
-//! What the workers did, put together: the logs and the claims in the root, and all results in one list.
-ghost use Rattle.std.specs.Prelude.{◌≡◌, ℕ, ◌+◌, ◌-◌, ◌<◌, ◌≤◌, ◌++◌, [], true, map, All, IfOk, OnOk, vec_len};
+//! What the workers did, put together: the logs and the chunks in the root, and all results in one list.
+ghost use Rattle.std.specs.Prelude.{◌≡◌, ◌+◌, ◌-◌, ◌<◌, ◌++◌, [], true, map, All, IfOk, OnOk, vec_len};
 ghost use Rattle.jul_base.specs.Logs.{followed_by};
-ghost use Rattle.jul_base.specs.Times.{times};
 ghost use Rattle.jul_pool.specs.Runs.{Did};
 ghost use Rattle.jul_pool.specs.Workers.{IsWorked};
 
 use crate::claims::Seat;
 use crate::jobs::Job;
-use crate::workers::{Round, Worked};
+use crate::rounds::{Round, Worked};
 use jul_base::{Gate, Share};
 use std::alloc::AllocError;
 
@@ -29,7 +28,7 @@ fn take_in<J: Job, G: Gate>(
     ensures table { seat.new.table_id ≡ seat.old.table_id }
     ensures root_seat { seat.new.me.0.root ≡ 1 }
     ensures seats_out { seat.new.me.0.out ≡ seat.old.me.0.out - 1 }
-    ensures claimed { seat.new.me.0.claimed ≡ seat.old.me.0.claimed ++ worked.seat.me.0.claimed }
+    ensures chunks { seat.new.me.0.chunks ≡ seat.old.me.0.chunks ++ worked.seat.me.0.chunks }
 
     ensures root { J.Token.is_root token.new ≡ true }
     ensures out { J.Token.out token.new + 1 ≡ J.Token.out token.old }
@@ -58,7 +57,7 @@ pub fn gather<J: Job, G: Gate>(
     requires table { seat.old.table_id ≡ round.now.board.now.table.shared.table_id }
     requires root_seat { seat.old.me.0.root ≡ 1 }
     requires seats_out { seat.old.me.0.out ≡ vec_len worked }
-    requires none_claimed { seat.old.me.0.claimed ≡ [] }
+    requires none_taken { seat.old.me.0.chunks ≡ [] }
     requires root { J.Token.is_root token.old ≡ true }
     requires out { J.Token.out token.old ≡ vec_len worked }
     requires worked { All (λ one. IfOk one (IsWorked J.Token.log J.Token.home J.Token.is_root
@@ -67,18 +66,15 @@ pub fn gather<J: Job, G: Gate>(
     ensures table { OnOk result (seat.new.table_id ≡ seat.old.table_id) }
     ensures root_seat { OnOk result (seat.new.me.0.root ≡ 1) }
     ensures no_seat_out { OnOk result (seat.new.me.0.out ≡ 0) }
-    ensures claimed { IfOk result (λ done. (x : ℕ) → x < round.now.chunks →
-        times x seat.new.me.0.claimed ≡ times x (map (λ p. p.0) done.items)) }
-    ensures ended { OnOk result (0 < vec_len worked →
-        (n : ℕ) × (round.now.chunks ≤ n) × (0 < times n seat.new.me.0.claimed)) }
+    ensures chunks { IfOk result (λ done. seat.new.me.0.chunks ≡ map (λ p. p.0) done.items) }
 
     ensures root { OnOk result (J.Token.is_root token.new ≡ true) }
     ensures none_out { OnOk result (J.Token.out token.new ≡ 0) }
     ensures home { OnOk result (J.Token.home token.new ≡ J.Token.home token.old) }
-    ensures did { IfOk result (λ done. Did (J.gives round.now.job.now) round.now.chunks
+    ensures did { IfOk result (λ done. Did (J.gives round.now.job.now) round.now.board.now.chunks
         (J.Token.log token.old) (J.Token.log token.new) done.items) }
 {
-    let mut done = Vec::new(round.alloc);
+    let mut done = Vec::with_capacity(round.alloc, round.board.chunks as usize)?;
     while let Some(one) = worked.pop() {
         take_in(round, seat, token, &mut done, one?)?;
     }

@@ -1,51 +1,57 @@
 //! The workers of one call: what each is lent, and the threads that they run on.
 ghost use Rattle.std.specs.Prelude.{◌≡◌, ℕ, ◌<◌, ◌≤◌, [], true, All, IfOk, OnOk, vec_len};
+ghost use Rattle.crossbeam_deque.specs.Handles.{worker_view};
 ghost use Rattle.jul_pool.specs.Claims.{root_view};
+ghost use Rattle.jul_pool.specs.Deques.{MayPush};
 ghost use Rattle.jul_pool.specs.Workers.{IsLent, IsWorked};
 
 use crate::claims::Seat;
+use crate::deques::Hand;
 use crate::jobs::Job;
-use crate::workers::{Lent, Round, Worked, work};
+use crate::rounds::{Lent, Round, Worked};
+use crate::workers::work;
 use jul_base::{Gate, Share};
 use std::alloc::AllocError;
 use std::thread;
 use std::thread::Threads;
 
-/// Splits the root seat and the root token for each worker.
+/// Splits the root seat and the root token for each worker, and gives it its deque.
 pub fn lend<J: Job, G: Gate>(
     round: &Round<'_, J, G>,
-    workers: u32,
+    mut hands: Vec<Hand>,
     seat: &mut Seat,
     token: &mut J::Token,
 ) -> Result<Vec<Lent<J::Token>>, AllocError>
-    requires few { workers ≤ 64 }
+    requires few { vec_len hands ≤ 64 }
+    requires dealt { All (λ h. MayPush h.next (worker_view h.deque)) hands.items }
     requires table { seat.old.table_id ≡ round.now.board.now.table.shared.table_id }
-    requires seat { seat.old.me ≡ (root_view round.now.chunks, []) }
+    requires seat { seat.old.me ≡ (root_view, []) }
     requires root { J.Token.is_root token.old ≡ true }
     requires none_out { J.Token.out token.old ≡ 0 }
 
-    ensures count { IfOk result (λ v. vec_len v ≡ workers) }
+    ensures count { IfOk result (λ v. vec_len v ≡ vec_len hands) }
     ensures lent { IfOk result (λ v.
         All (IsLent J.Token.log J.Token.home J.Token.is_root round.now (J.Token.home token.old)) v.items) }
 
     ensures table { OnOk result (seat.new.table_id ≡ seat.old.table_id) }
     ensures root_seat { OnOk result (seat.new.me.0.root ≡ 1) }
-    ensures seats_out { OnOk result (seat.new.me.0.out ≡ workers) }
-    ensures none_claimed { OnOk result (seat.new.me.0.claimed ≡ []) }
+    ensures seats_out { OnOk result (seat.new.me.0.out ≡ vec_len hands) }
+    ensures none_taken { OnOk result (seat.new.me.0.chunks ≡ []) }
 
     ensures root { OnOk result (J.Token.is_root token.new ≡ true) }
-    ensures out { OnOk result (J.Token.out token.new ≡ workers) }
+    ensures out { OnOk result (J.Token.out token.new ≡ vec_len hands) }
     ensures log { OnOk result (J.Token.log token.new ≡ J.Token.log token.old) }
     ensures home { OnOk result (J.Token.home token.new ≡ J.Token.home token.old) }
 {
-    let mut lent = Vec::with_capacity(round.alloc, workers as usize)?;
-    for number in 0..workers {
+    let mut lent = Vec::with_capacity(round.alloc, hands.len())?;
+    while let Some(hand) = hands.pop() {
         let mine = round.board.split(seat);
         let part = token.split();
         lent.push(Lent {
-            number,
+            number: hands.len() as u32,
             seat: mine,
             token: part,
+            hand,
         })?;
     }
     Ok(lent)
@@ -62,7 +68,7 @@ pub fn run_workers<R: Threads + Sync, J: Job, G: Gate>(
 ) -> Result<Vec<Result<Worked<J::Token, J::Out>, AllocError>>, AllocError>
     requires lent { All
         (IsLent J.Token.log J.Token.home J.Token.is_root round.now (J.Token.home root.now)) lent.items }
-    requires condition { (chunk : ℕ) → chunk < round.now.chunks →
+    requires condition { (chunk : ℕ) → chunk < round.now.board.now.chunks →
         J.can_run round.now.job.now chunk (J.Token.home root.now) }
 
     ensures count { IfOk result (λ v. vec_len v ≡ vec_len lent) }
@@ -71,7 +77,7 @@ pub fn run_workers<R: Threads + Sync, J: Job, G: Gate>(
 {
     let run = |one: Lent<J::Token>| -> Result<Worked<J::Token, J::Out>, AllocError>
         requires { IsLent J.Token.log J.Token.home J.Token.is_root round.now (J.Token.home one.token) one
-            × ((chunk : ℕ) → chunk < round.now.chunks →
+            × ((chunk : ℕ) → chunk < round.now.board.now.chunks →
             J.can_run round.now.job.now chunk (J.Token.home one.token)) }
         ensures { IfOk result
             (IsWorked J.Token.log J.Token.home J.Token.is_root round.entry.now (J.Token.home one.token) J.gives) }

@@ -8,11 +8,17 @@ mod alone;
 mod chunk_runs;
 mod claim_rule;
 mod claims;
+mod deque_rule;
+mod deques;
 mod gathering;
 mod jobs;
+mod leftovers;
 mod lending;
+mod ranges;
+mod rounds;
 mod running;
 mod settling;
+mod stealing;
 mod teams;
 #[cfg(test)]
 mod tests;

@@ -4,12 +4,14 @@ ghost use Rattle.jul_pool.specs.Runs.{RanEachOnce};
 
 use crate::alone::run_alone;
 use crate::claims::Board;
+use crate::deques::{deal, thieves_of};
 use crate::gathering::gather;
 use crate::jobs::{Job, RunOut};
+use crate::leftovers::run_rest;
 use crate::lending::{lend, run_workers};
+use crate::rounds::{Round, Worked};
 use crate::settling::settle;
 use crate::teams::Team;
-use crate::workers::Round;
 use jul_base::{Gate, Ids, Share};
 use std::alloc::{AllocError, Global};
 use std::thread::Threads;
@@ -65,17 +67,22 @@ fn run_together<R: Threads + Sync, J: Job, G: Gate>(
     ensures home { IfOk result (λ r. J.Token.home r.token ≡ J.Token.home token) }
 {
     let mut token = token;
-    let (board, mut seat) = Board::open(alloc, u64::from(chunks))?;
+    let (board, mut seat) = Board::open(alloc, chunks)?;
+    let hands = deal(alloc, workers, chunks)?;
+    let thieves = thieves_of(alloc, &hands)?;
     let round = Round {
         alloc,
         board: &board,
         gate,
         job,
-        chunks,
+        thieves: thieves.as_slice(),
     };
-    let lent = lend(&round, workers, &mut seat, &mut token)?;
+    let lent = lend(&round, hands, &mut seat, &mut token)?;
     let worked = run_workers(rt, &round, &token, lent)?;
     let done = gather(&round, &mut seat, &mut token, worked)?;
+    let mut lead = Worked { done, seat, token };
+    run_rest(&round, &mut lead)?;
+    let Worked { done, seat, token } = lead;
     board.close(seat);
     let (outs, order) = settle(alloc, chunks, done)?;
     Ok(RunOut {

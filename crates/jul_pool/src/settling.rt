@@ -42,7 +42,7 @@ fn unwrap_all<X: Drop>(alloc: Global, mut places: Vec<Option<X>>) -> Result<Vec<
 }
 
 /// The chunks of results, in the order in which they stand.
-fn chunks_of<X>(alloc: Global, done: &[(u32, X)]) -> Result<Vec<u32>, AllocError>
+pub fn chunks_of<X>(alloc: Global, done: &[(u32, X)]) -> Result<Vec<u32>, AllocError>
     ensures { IfOk result (λ v. v.items ≡ map (λ p. p.0) done.now) }
 {
     done.iter().map(|p| p.0).collect(alloc)
