@@ -14,7 +14,7 @@ Scene = namedtuple("Scene", "graph witness source word")
 
 GREATEST = 2**64 - 2        # the greatest number of a witness
 CUT = 2**32                 # what a number loses that is kept in 32 bits
-READ_BLOCK, WRITE_BLOCK = 65536, 8192   # bytes that the program moves at a time
+READ_BLOCK, WRITE_BLOCK = 65536, 65536   # bytes that the program moves at a time
 
 
 def random_graph(rng, n, places, greatest):

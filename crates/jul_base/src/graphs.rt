@@ -26,7 +26,8 @@ impl RawGraph {
 
     /// Whether the lists are those of a graph within the limits: the first offset is 0 and offsets never fall, none
     /// of them exceeds the number of places, targets are vertices, and there is a weight for each place or none at
-    /// all. A graph that was read from a file always is. One pass; takes no memory.
+    /// all. A graph that was read from a file always is. Two passes over the offsets and one over each other list;
+    /// takes no memory.
     pub fn is_lawful(&self) -> bool
         ensures { IsTrue result ↔ IsLawful self.now }
     {

@@ -9,9 +9,9 @@ use itoa::Buffer;
 use std::marker::Model;
 
 /// How many bytes a block gathers before it is written.
-const BLOCK: usize = 8192;
+const BLOCK: usize = 65_536;
 
-/// Bytes that wait for their sink, which gets them some thousand at a time. Contracts see them as a list.
+/// Bytes that wait for their sink, which gets them a block at a time. Contracts see them as a list.
 ///
 /// After `Failed` the part that the sink got is a prefix of all that was put, and the block is of no more use.
 #[derive(Drop)]
@@ -36,6 +36,7 @@ impl TextBlock {
     }
 
     /// Puts bytes behind those that wait, and writes those where the block has no room. Takes no memory.
+    #[inline]
     pub fn put<S: Sink>(&mut self, sink: &mut S, piece: &[u8]) -> Result<(), Failed>
         ensures ok { OnOk result (IsSent (S.state sink.old) (S.state sink.new) self.new (self.old ++ piece.now)) }
         ensures err { OnErr result (FailedWriting (S.state sink.old) (S.state sink.new) (self.old ++ piece.now)) }
@@ -44,6 +45,18 @@ impl TextBlock {
         if let Ok(()) = self.waiting.try_extend_from_slice(piece) {
             return Ok(());
         }
+        self.put_next(sink, piece)
+    }
+
+    // Writes those that wait, and puts the bytes into the empty block, or writes them too where they are more
+    // than it has room for.
+    #[cold]
+    #[inline(never)]
+    fn put_next<S: Sink>(&mut self, sink: &mut S, piece: &[u8]) -> Result<(), Failed>
+        ensures ok { OnOk result (IsSent (S.state sink.old) (S.state sink.new) self.new (self.old ++ piece.now)) }
+        ensures err { OnErr result (FailedWriting (S.state sink.old) (S.state sink.new) (self.old ++ piece.now)) }
+        ensures faults { (S.state sink.old).faults ≤ (S.state sink.new).faults }
+    {
         self.flush(sink)?;
         if let Ok(()) = self.waiting.try_extend_from_slice(piece) {
             return Ok(());
@@ -52,6 +65,7 @@ impl TextBlock {
     }
 
     /// Puts the decimal text of `value`, without leading zeros. Takes no memory.
+    #[inline]
     pub fn put_u64<S: Sink>(&mut self, sink: &mut S, value: u64) -> Result<(), Failed>
         ensures ok { OnOk result (IsSent (S.state sink.old) (S.state sink.new) self.new (self.old ++ decimal value)) }
         ensures err { OnErr result (FailedWriting (S.state sink.old) (S.state sink.new) (self.old ++ decimal value)) }

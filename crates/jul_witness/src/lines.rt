@@ -122,6 +122,7 @@ fn put_triple<S: Sink>(
 }
 
 /// Puts a number, or a minus sign for `NONE`, and the bytes behind it.
+#[inline]
 pub(crate) fn put_value<S: Sink>(
     block: &mut TextBlock,
     sink: &mut S,
@@ -138,6 +139,7 @@ pub(crate) fn put_value<S: Sink>(
     block.put(sink, end)
 }
 
+#[inline]
 fn put_number<S: Sink>(block: &mut TextBlock, sink: &mut S, value: u64) -> Result<(), Failed>
     ensures ok { OnOk result (IsSent (S.state sink.old) (S.state sink.new) block.new
         (block.old ++ value_text value)) }

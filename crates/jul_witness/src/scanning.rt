@@ -3,6 +3,8 @@ ghost use Rattle.std.specs.Prelude.{◌≡◌, ◌+◌, ◌-◌, ◌<◌, ◌≤
 ghost use Rattle.jul_base.specs.declared.limits.TheConstants.{NONE};
 ghost use Rattle.jul_text.specs.Tokens.{tokens};
 ghost use Rattle.jul_text.specs.Scanning.{text_at};
+ghost use Rattle.jul_text.specs.Numerals.{numeral};
+ghost use Rattle.jul_text.specs.Shapes.{shape};
 ghost use Rattle.jul_witness.specs.Reading.{number_of, entry_of, fault_without, kind_at};
 ghost use Rattle.jul_witness.specs.Reading.{all_tokens, witness_of, read_tokens};
 ghost use Rattle.jul_witness.specs.Scanning.{IsClean};
@@ -10,7 +12,7 @@ ghost use Rattle.jul_witness.specs.Scanning.{IsClean};
 use crate::faults::{WitnessFault, WitnessKind};
 use crate::forms::{Form, has_dashes};
 use jul_base::NONE;
-use jul_text::{Numeral, next_token, read_number};
+use jul_text::{Numeral, Shape, next_shape, next_token, shape_number};
 
 /// A place between two tokens, and the number of the token behind it.
 #[derive(Clone, Copy)]
@@ -30,15 +32,28 @@ pub(crate) fn fault(kind: WitnessKind, token: usize, at: usize) -> WitnessFault
     }
 }
 
-// A token as a number up to a bound, a minus sign as `NONE` where it may stand.
+// A token of this shape as a number up to a bound, as `read_number` says it.
 #[inline]
-fn number_up_to(token: &[u8], dash: bool, bound: u64) -> Option<u64>
+fn numeral_of(token: &[u8], what: Shape, bound: u64) -> Numeral
+    requires { what ≡ shape token.now }
+
+    ensures { result ≡ numeral token.now bound }
+{
+    let _ = token;
+    shape_number(what, bound)
+}
+
+// A token of this shape as a number up to a bound, a minus sign as `NONE` where it may stand.
+#[inline]
+fn number_up_to(token: &[u8], what: Shape, dash: bool, bound: u64) -> Option<u64>
+    requires { what ≡ shape token.now }
+
     ensures { result ≡ number_of dash bound token.now }
 {
     if dash && token == b"-".as_slice() {
         return Some(NONE);
     }
-    match read_number(token, bound) {
+    match numeral_of(token, what, bound) {
         Numeral::Value(value) => Some(value),
         _ => None,
     }
@@ -65,10 +80,10 @@ pub(crate) fn next_value(
 
     ensures err { IfErr result (λ f. read_tokens (tokens bytes.now) (length bytes.now) ≡ Err f) }
 {
-    let Some(token) = next_token(bytes, place.at) else {
+    let Some((token, what)) = next_shape(bytes, place.at) else {
         return Err(fault(WitnessKind::Truncated, place.token, bytes.len()));
     };
-    let Some(value) = number_up_to(&bytes[token.start..token.end], dash, bound) else {
+    let Some(value) = number_up_to(&bytes[token.start..token.end], what, dash, bound) else {
         return Err(fault(WitnessKind::Number, place.token, token.start));
     };
     let next = Place {

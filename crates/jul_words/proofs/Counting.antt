@@ -7,13 +7,24 @@ use mathlib.Core.Option.{none}
 use Rattle.atomic_table.specs.Table.{step, Allows}
 use Rattle.jul_base.specs.Logs.{Entry, Home}
 use Rattle.jul_words.specs.Weights.{HasSameEntries}
-use Rattle.jul_words.specs.Seats.{home, named, all_entries}
-use Rattle.jul_words.specs.Views.{View}
-use Rattle.jul_words.specs.Ruled.{Sat, Logs}
+use Rattle.jul_words.specs.Seats.{Seat, AreKin, home, named, all_entries}
+use Rattle.jul_words.specs.Views.{View, live_seats}
+use Rattle.jul_words.specs.Ruled.{StandFor, Sat, Logs}
 use Rattle.jul_words.specs.Counts.{adding, draining, is_add, IsFew, IsTally, AreTallies, IsCount, CountWordsRule, Tells, Loads, Adds, Drains}
 use Rattle.jul_words.proofs.Tallies.{tally_same, tally_is, settles, no_add, other_word, one_add, added, emptied}
-use Rattle.jul_words.proofs.Living.{word_after_one, others, others_entries, others_kin}
-use Rattle.jul_words.proofs.Ruling.{Rule, Found, looks_on, looks_at, logs_at}
+use Rattle.jul_words.proofs.Living.{word_after_one, live_kin, live_entries, others, others_entries, others_kin}
+use Rattle.jul_words.proofs.Ruling.{Rule, Found, looks_at, logs_at}
+
+-- the rule in plain form, of seats that have the entries of the history together
+of_seats : (h : Home) (words : List ℕ) (history : List Entry) → IsCount h words history → (table : List ℕ) (seats : List Seat) → AreKin (home table h.starts h.floors) seats → HasSameEntries (all_entries seats) history
+    → CountWordsRule (home table h.starts h.floors) (drop 1 words) seats
+of_seats h words history r table seats kin same = let all = all_entries seats in record {
+  kin = kin;
+  tallies = λ v near few. subst (λ n. IsTally v n all) (sym (word_after_one words v)) (tally_same v _ all history same (r.words_are v near (omega (arith, same (is_add v)))));
+}
+
+pub stand_for : StandFor IsCount CountWordsRule
+stand_for h words table views r = of_seats h words r.history r.holds table (live_seats table views) (live_kin h views r.history r.kin table) (live_entries h views r.history r.kin table)
 
 module _ (id : ℕ) (me : View) (live : me.live ≡ true) (words : List ℕ) (views : List View) (history : List Entry) (at : Found IsCount id me words views history) where
   abbrev h : Home
@@ -21,11 +32,7 @@ module _ (id : ℕ) (me : View) (live : me.live ≡ true) (words : List ℕ) (vi
 
   -- the rule, said of the live seats
   moment : (table : List ℕ) → CountWordsRule (home table h.starts h.floors) (drop 1 words) (named table me.seat ∷ others h views history at.kin id me at.mine live table)
-  moment table =
-      let same = others_entries h views history at.kin id me at.mine live table in let all = all_entries (named table me.seat ∷ others h views history at.kin id me at.mine live table) in record {
-        kin = others_kin h views history at.kin id me at.mine live table;
-        tallies = λ v near few. subst (λ n. IsTally v n all) (sym (word_after_one words v)) (tally_same v _ all history same (at.holds.words_are v near (omega (arith, same (is_add v)))));
-      }
+  moment table = of_seats h words history at.holds table _ (others_kin h views history at.kin id me at.mine live table) (others_entries h views history at.kin id me at.mine live table)
 
   told : (k : ℕ) → k < length h.starts → Tells me.seat k (slice_index words (k + 1))
   told k near = record {
@@ -49,9 +56,6 @@ puts h words history k m e near at r now = record {
 module _ (of_table : Home) (slots id : ℕ) (me : Sat) (live : me.0.live ≡ true) where
   settled : (words : List ℕ) (history log : List Entry) → IsCount me.0.seat.home words history → HasSameEntries log history → AreTallies me.0.seat.home log
   settled = settles me.0.seat.home
-
-  pub looks : Allows (Rule IsCount of_table) slots id me 0 (λ n. n) (Loads (step slots 0 0 0 none) me)
-  looks = looks_on IsCount of_table slots id me live Tells AreTallies settled
 
   module _ (k : ℕ) (near : k < length me.0.seat.home.starts) where
     told_at : (words : List ℕ) (views : List View) (history : List Entry) → Found IsCount id me.0 words views history → Tells me.0.seat k (slice_index words (k + 1))

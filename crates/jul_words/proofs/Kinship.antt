@@ -7,7 +7,7 @@ use Rattle.atomic_table.proofs.Lists.{at_set, at_snoc}
 use Rattle.jul_base.specs.Logs.{Entry, Home}
 use Rattle.jul_words.specs.Weights.{weigh, counted}
 use Rattle.jul_words.specs.Seats.{Seat, rooted, beside, logs, lent, joined, IsAlone}
-use Rattle.jul_words.specs.Views.{View, lives, spent, total, present, Stands, Kin}
+use Rattle.jul_words.specs.Views.{View, lives, spent, total, present, heads, Stands, Kin}
 use Rattle.jul_words.proofs.Sums.{weigh-append, total-append, total-set, terms_le, total-only, term_le}
 
 off : false ≡ true → ⊥
@@ -39,7 +39,7 @@ stands_spent : (h : Home) (m j : ℕ) → Stands h m j spent
 stands_spent h m j = record { at_home = λ f. absurd (off f); is_spent = λ _. (refl, refl); is_root = λ f. absurd (off f) }
 
 pub begins : (h : Home) → Kin h (lives (rooted h) ∷ []) []
-begins h = record { stands = one; logged = λ f. refl }
+begins h = record { stands = one; one_root = refl; logged = λ f. refl }
   where
     one : (j : ℕ) (v : View) → get_elem? (lives (rooted h) ∷ []) j ≡ some v → Stands h 1 j v
     one zero v e = subst (λ (u : View). Stands h 1 0 u) (some-injective _ _ e) (record { at_home = λ _. refl; is_spent = λ f. absurd (true≢false f); is_root = λ _. (refl, refl) })
@@ -61,6 +61,7 @@ module _ (h : Home) (views : List View) (history : List Entry) (k : Kin h views 
       is_spent = λ f. absurd (true≢false f);
       is_root = λ r. ((mine.is_root r).0, sym n ∙ (mine.is_root r).1);
     });
+    one_root = omega (arith, total-set heads views i v w at, k.one_root);
     logged = λ f. omega (arith, total-set (λ u. weigh f u.seat.log) views i v w at, k.logged f, weigh-append f v.seat.log (e ∷ []));
   }
 
@@ -90,6 +91,7 @@ module _ (h : Home) (views : List View) (history : List Entry) (k : Kin h views 
       (record { at_home = λ _. homely; is_spent = λ f. absurd (true≢false f); is_root = λ q. ((mine.is_root q).0, n ∙ ap (λ z. z + 1) (mine.is_root q).1) }) in
       record {
         stands = λ j u e. ⊎_elim (was j u) (λ (same : b ≡ u). subst (λ (y : View). Stands h count j y) same (stands_beside h count j (beside v.seat) homely refl)) (at_snoc vs b u j e);
+        one_root = omega (arith, total-append heads vs (b ∷ []), total-set heads views i v w at, k.one_root);
         logged = λ f. omega (arith, total-append (λ u. weigh f u.seat.log) vs (b ∷ []), total-set (λ u. weigh f u.seat.log) views i v w at, k.logged f);
       }
 
@@ -103,5 +105,6 @@ module _ (h : Home) (views : List View) (history : List Entry) (k : Kin h views 
       (record { at_home = λ _. homely; is_spent = λ f. absurd (true≢false f); is_root = λ q. ((mine.is_root q).0, let c = (mine.is_root q).1 in omega arith) }) in
       record {
         stands = stands_set h count vs other spent (λ j y _ e. first j y e) (stands_spent h count other);
+        one_root = omega (arith, total-set heads views i v w at, total-set heads vs other u spent there, ap counted seat, k.one_root);
         logged = λ f. let x = total-set (λ y. weigh f y.seat.log) views i v w at in let y = total-set (λ y. weigh f y.seat.log) vs other u spent there in omega (arith, k.logged f, weigh-append f v.seat.log u.seat.log);
       }

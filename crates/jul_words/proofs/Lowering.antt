@@ -7,13 +7,27 @@ use mathlib.Core.Option.{none}
 use Rattle.atomic_table.specs.Table.{step, Allows}
 use Rattle.jul_base.specs.Logs.{Entry, Home}
 use Rattle.jul_words.specs.Weights.{HasSameEntries}
-use Rattle.jul_words.specs.Seats.{home, named, all_entries, start_of, floor_of}
-use Rattle.jul_words.specs.Views.{View}
-use Rattle.jul_words.specs.Ruled.{Sat}
+use Rattle.jul_words.specs.Seats.{Seat, AreKin, home, named, all_entries, start_of, floor_of}
+use Rattle.jul_words.specs.Views.{View, live_seats}
+use Rattle.jul_words.specs.Ruled.{StandFor, Sat}
 use Rattle.jul_words.specs.Least.{IsLeast, MinWordsRule, IsSettled, Tells, Loads, Lowers, word_by, lowering}
-use Rattle.jul_words.proofs.Living.{word_after_one, others, others_entries, others_kin}
+use Rattle.jul_words.proofs.Living.{word_after_one, live_kin, live_entries, others, others_entries, others_kin}
 use Rattle.jul_words.proofs.Minima.{least_here, least_else, least_more, least_same, lowers_floor, lowers_marks, marks_same, settles}
-use Rattle.jul_words.proofs.Ruling.{Rule, Found, looks_on, looks_at, logs_at}
+use Rattle.jul_words.proofs.Ruling.{Rule, Found, looks_at, logs_at}
+
+-- the rule in plain form, of seats that have the entries of the history together
+of_seats : (h : Home) (words : List ℕ) (history : List Entry) → IsLeast h words history → (table : List ℕ) (seats : List Seat) → AreKin (home table h.starts h.floors) seats → HasSameEntries (all_entries seats) history
+    → MinWordsRule (home table h.starts h.floors) (drop 1 words) seats
+of_seats h words history r table seats kin same =
+    let all = all_entries seats in let is : (v : ℕ) → v < length h.starts → slice_index (drop 1 words) v ≡ word_by h history v = λ v near. word_after_one words v ∙ r.words_are v near in record {
+      kin = kin;
+      least_of_all = λ v near. is v near ∙ least_same v (start_of h v) all history same;
+      floors = λ v near. subst (λ n. floor_of h v ≤ n) (sym (is v near)) (lowers_floor h v history (r.floors v near) r.legal);
+      marked = λ v near. marks_same (start_of h v) v all history same (lowers_marks h v history r.legal);
+    }
+
+pub stand_for : StandFor IsLeast MinWordsRule
+stand_for h words table views r = of_seats h words r.history r.holds table (live_seats table views) (live_kin h views r.history r.kin table) (live_entries h views r.history r.kin table)
 
 module _ (id : ℕ) (me : View) (live : me.live ≡ true) (words : List ℕ) (views : List View) (history : List Entry) (at : Found IsLeast id me words views history) where
   abbrev h : Home
@@ -21,14 +35,7 @@ module _ (id : ℕ) (me : View) (live : me.live ≡ true) (words : List ℕ) (vi
 
   -- the rule, said of the live seats
   moment : (table : List ℕ) → MinWordsRule (home table h.starts h.floors) (drop 1 words) (named table me.seat ∷ others h views history at.kin id me at.mine live table)
-  moment table =
-      let same = others_entries h views history at.kin id me at.mine live table in let all = all_entries (named table me.seat ∷ others h views history at.kin id me at.mine live table) in
-      let is : (v : ℕ) → v < length h.starts → slice_index (drop 1 words) v ≡ word_by h history v = λ v near. word_after_one words v ∙ at.holds.words_are v near in record {
-        kin = others_kin h views history at.kin id me at.mine live table;
-        least_of_all = λ v near. is v near ∙ least_same v (start_of h v) all history same;
-        floors = λ v near. subst (λ n. floor_of h v ≤ n) (sym (is v near)) (lowers_floor h v history (at.holds.floors v near) at.holds.legal);
-        marked = λ v near. marks_same (start_of h v) v all history same (lowers_marks h v history at.holds.legal);
-      }
+  moment table = of_seats h words history at.holds table _ (others_kin h views history at.kin id me at.mine live table) (others_entries h views history at.kin id me at.mine live table)
 
   module _ (k : ℕ) (near : k < length h.starts) where
     told : Tells me.seat k (slice_index words (k + 1))
@@ -55,9 +62,6 @@ lowered h words history r k near c low = let n = slice_index words (k + 1) in le
 module _ (of_table : Home) (slots id : ℕ) (me : Sat) (live : me.0.live ≡ true) where
   settled : (words : List ℕ) (history log : List Entry) → IsLeast me.0.seat.home words history → HasSameEntries log history → IsSettled me.0.seat.home log
   settled = settles me.0.seat.home
-
-  pub looks : Allows (Rule IsLeast of_table) slots id me 0 (λ n. n) (Loads (step slots 0 0 0 none) me)
-  looks = looks_on IsLeast of_table slots id me live Tells IsSettled settled
 
   module _ (k : ℕ) (near : k < length me.0.seat.home.starts) where
     told_at : (words : List ℕ) (views : List View) (history : List Entry) → Found IsLeast id me.0 words views history → Tells me.0.seat k (slice_index words (k + 1))

@@ -7,13 +7,25 @@ use mathlib.Core.Option.{none}
 use Rattle.atomic_table.specs.Table.{step, Allows}
 use Rattle.jul_base.specs.Logs.{Entry, Home}
 use Rattle.jul_words.specs.Weights.{HasSameEntries}
-use Rattle.jul_words.specs.Seats.{home, named, all_entries}
-use Rattle.jul_words.specs.Views.{View}
-use Rattle.jul_words.specs.Ruled.{Sat}
-use Rattle.jul_words.specs.Stamps.{greatest, stamping, AllFirsts, IsGreatest, StampWordsRule, Tells, Loads, StampsOn}
+use Rattle.jul_words.specs.Seats.{Seat, AreKin, home, named, all_entries}
+use Rattle.jul_words.specs.Views.{View, live_seats}
+use Rattle.jul_words.specs.Ruled.{StandFor, Sat}
+use Rattle.jul_words.specs.Stamps.{greatest, stamping, AllFirsts, IsGreatest, StampWordsRule, Tells, StampsOn}
 use Rattle.jul_words.proofs.Maxima.{greatest_here, greatest_else, greatest_more, greatest_same, stamped_firsts, firsts_same, settles}
-use Rattle.jul_words.proofs.Living.{word_after_one, others, others_entries, others_kin}
-use Rattle.jul_words.proofs.Ruling.{Rule, Found, looks_on, logs_at}
+use Rattle.jul_words.proofs.Living.{word_after_one, live_kin, live_entries, others, others_entries, others_kin}
+use Rattle.jul_words.proofs.Ruling.{Rule, Found, logs_at}
+
+-- the rule in plain form, of seats that have the entries of the history together
+of_seats : (h : Home) (words : List ℕ) (history : List Entry) → IsGreatest h words history → (table : List ℕ) (seats : List Seat) → AreKin (home table h.starts h.floors) seats → HasSameEntries (all_entries seats) history
+    → StampWordsRule (home table h.starts h.floors) (drop 1 words) seats
+of_seats h words history r table seats kin same = let all = all_entries seats in record {
+  kin = kin;
+  greatest_of_all = λ v near. word_after_one words v ∙ r.words_are v near ∙ greatest_same v all history same;
+  marked = λ v near. firsts_same v all history same (stamped_firsts v history r.legal);
+}
+
+pub stand_for : StandFor IsGreatest StampWordsRule
+stand_for h words table views r = of_seats h words r.history r.holds table (live_seats table views) (live_kin h views r.history r.kin table) (live_entries h views r.history r.kin table)
 
 module _ (id : ℕ) (me : View) (live : me.live ≡ true) (words : List ℕ) (views : List View) (history : List Entry) (at : Found IsGreatest id me words views history) where
   abbrev h : Home
@@ -21,12 +33,7 @@ module _ (id : ℕ) (me : View) (live : me.live ≡ true) (words : List ℕ) (vi
 
   -- the rule, said of the live seats
   moment : (table : List ℕ) → StampWordsRule (home table h.starts h.floors) (drop 1 words) (named table me.seat ∷ others h views history at.kin id me at.mine live table)
-  moment table =
-      let same = others_entries h views history at.kin id me at.mine live table in let all = all_entries (named table me.seat ∷ others h views history at.kin id me at.mine live table) in record {
-        kin = others_kin h views history at.kin id me at.mine live table;
-        greatest_of_all = λ v near. word_after_one words v ∙ at.holds.words_are v near ∙ greatest_same v all history same;
-        marked = λ v near. firsts_same v all history same (stamped_firsts v history at.holds.legal);
-      }
+  moment table = of_seats h words history at.holds table _ (others_kin h views history at.kin id me at.mine live table) (others_entries h views history at.kin id me at.mine live table)
 
   told : (k : ℕ) → k < length h.starts → Tells me.seat k (slice_index words (k + 1))
   told k near = let w = at.holds.words_are k near in record {
@@ -50,9 +57,6 @@ stamped h words history r k near c = let n = slice_index words (k + 1) in let e 
 module _ (of_table : Home) (slots id : ℕ) (me : Sat) (live : me.0.live ≡ true) where
   settled : (words : List ℕ) (history log : List Entry) → IsGreatest me.0.seat.home words history → HasSameEntries log history → AllFirsts me.0.seat.home log
   settled = settles me.0.seat.home
-
-  pub looks : Allows (Rule IsGreatest of_table) slots id me 0 (λ n. n) (Loads (step slots 0 0 0 none) me)
-  looks = looks_on IsGreatest of_table slots id me live Tells AllFirsts settled
 
   module _ (k : ℕ) (near : k < length me.0.seat.home.starts) where
     told_at : (words : List ℕ) (views : List View) (history : List Entry) → Found IsGreatest id me.0 words views history → Tells me.0.seat k (slice_index words (k + 1))

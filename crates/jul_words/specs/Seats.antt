@@ -2,6 +2,7 @@
 use Rattle.std.specs.Prelude.{◌≡◌, ℕ, ◌+◌, ◌-◌, ◌<◌, ◌≤◌, List, [], ◌∷◌, ◌++◌, Bool, true, false, All, length, replicate, slice_index}
 use Rattle.atomic_table.specs.Seated.{TableId}
 use Rattle.jul_base.specs.Logs.{Entry, Home}
+use Rattle.jul_words.specs.Weights.{counted}
 
 -- where it belongs, whether it is the root, how many seats the root has out, and what was done through it
 pub record Seat : Type 0 where
@@ -76,9 +77,15 @@ abbrev pub all_entries : List Seat → List Entry
 all_entries [] = []
 all_entries (s ∷ ss) = s.log ++ all_entries ss
 
--- the seats are of one home, and a root among them counts the others
+-- how many of the seats are roots
+abbrev pub roots : List Seat → ℕ
+roots [] = 0
+roots (s ∷ ss) = counted s.root + roots ss
+
+-- the seats are of one home, and the one root among them counts the others
 pub record AreKin (h : Home) (seats : List Seat) : Type 0 where
   pub homes : All (λ s. s.home ≡ h) seats
+  pub one_root : roots seats ≡ 1
   pub out : All (λ s. s.root ≡ true → length seats ≡ s.out + 1) seats
 
 -- there is a moment at which the rule holds of the words and of all live seats, this one among them, and the word of v is n

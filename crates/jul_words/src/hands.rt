@@ -40,7 +40,7 @@ impl<'a, P: Meaning + Send> Share for Hand<'a, P> {
     ghost home_has_parts = { λ _. refl };
 
     fn split(&mut self) -> Hand<'a, P> {
-        let seat = self.words.part_off(&mut self.seat);
+        let seat = self.words.split(&mut self.seat);
         Hand {
             words: self.words,
             seat,

@@ -3,6 +3,7 @@ ghost use Rattle.std.specs.Prelude.{◌≡◌, ℕ, ◌+◌, ◌<◌, ◌≤◌,
 ghost use Rattle.jul_base.specs.declared.limits.TheConstants.{MAX_N};
 ghost use Rattle.jul_words.specs.Seats.{IsSeatOf, IsWord, IsAlone, AtMoment, home, rooted, beside, lent, joined, logs, floor_of, AreFloorsOf};
 ghost use Rattle.jul_words.specs.Least.{IsLeast, IsSettled, MinWordsRule, Loads, Lowers, lowering, word_by};
+ghost use Rattle.jul_words.specs.Ruled.{StandFor};
 
 use crate::floors::Floors;
 use crate::tables::{AfterFirst, Key, Meaning, WordSeat, Words};
@@ -17,6 +18,11 @@ pub struct Least;
 
 impl Meaning for Least {
     ghost holds = { IsLeast };
+
+    ghost is_settled = { IsSettled };
+
+    #[inline]
+    fn settle() {}
 }
 
 /// A table of words that are lowered.
@@ -103,33 +109,10 @@ impl Words<Least> {
         let words = &self.table.shared;
         words.fetch_min::<Lower>(&mut seat.seat, v as usize + 1, c)
     }
-
-    /// A seat of the same table with an empty log, for another thread. Only the root is split.
-    #[inline]
-    pub fn split(&self, seat: &mut MinSeat) -> MinSeat
-        requires seat { IsSeatOf self.now seat.old }
-        requires root { seat.old.root ≡ true }
-        requires room { seat.old.out < 65536 }
-        ensures root { seat.new ≡ lent seat.old }
-        ensures part { result ≡ beside seat.old }
-    {
-        self.part_off(seat)
-    }
-
-    /// The other seat's log follows that of the root, and one seat fewer is out.
-    #[inline]
-    pub fn join(&self, seat: &mut MinSeat, other: MinSeat)
-        requires seat { IsSeatOf self.now seat.old }
-        requires kin { other.home ≡ seat.old.home }
-        requires root { seat.old.root ≡ true }
-        requires some_out { 0 < seat.old.out }
-        requires part { other.root ≡ false }
-        ensures joined { seat.new ≡ joined seat.old other }
-        ensures settled { IsAlone seat.new → IsSettled seat.new.home seat.new.log }
-    {
-        self.take_in(seat, other);
-        let words = &self.table.shared;
-        // A join tells nothing of the words. This load does, once no seat is out.
-        words.load::<Load>(&mut seat.seat, 0);
-    }
+    /// What the table keeps between any two steps gives `MinWordsRule` of its live seats, in every schedule.
+    ///
+    /// It is a law, and does nothing when it runs.
+    pub fn stand_for_logs()
+        ensures { StandFor IsLeast MinWordsRule }
+    {}
 }

@@ -5,6 +5,7 @@ ghost use Rattle.jul_base.specs.Logs.{STAMP};
 ghost use Rattle.jul_words.specs.Weights.{counted};
 ghost use Rattle.jul_words.specs.Seats.{IsSeatOf, IsWord, IsAlone, AtMoment, zeros, rooted, beside, lent, joined, logs, entry};
 ghost use Rattle.jul_words.specs.Stamps.{IsGreatest, AllFirsts, StampWordsRule, Loads, StampsOn, Met, greatest};
+ghost use Rattle.jul_words.specs.Ruled.{StandFor};
 
 use crate::tables::{AfterFirst, Key, Meaning, WordSeat, Words};
 use crate::tags::Tag;
@@ -17,6 +18,11 @@ pub struct Greatest;
 
 impl Meaning for Greatest {
     ghost holds = { IsGreatest };
+
+    ghost is_settled = { AllFirsts };
+
+    #[inline]
+    fn settle() {}
 }
 
 /// A table of words that are stamped.
@@ -72,33 +78,10 @@ impl Words<Greatest> {
         let words = &self.table.shared;
         words.fetch_max::<Stamp>(&mut seat.seat, v as usize + 1, round) < round
     }
-
-    /// A seat of the same table with an empty log, for another thread. Only the root is split.
-    #[inline]
-    pub fn split(&self, seat: &mut StampSeat) -> StampSeat
-        requires seat { IsSeatOf self.now seat.old }
-        requires root { seat.old.root ≡ true }
-        requires room { seat.old.out < 65536 }
-        ensures root { seat.new ≡ lent seat.old }
-        ensures part { result ≡ beside seat.old }
-    {
-        self.part_off(seat)
-    }
-
-    /// The other seat's log follows that of the root, and one seat fewer is out.
-    #[inline]
-    pub fn join(&self, seat: &mut StampSeat, other: StampSeat)
-        requires seat { IsSeatOf self.now seat.old }
-        requires kin { other.home ≡ seat.old.home }
-        requires root { seat.old.root ≡ true }
-        requires some_out { 0 < seat.old.out }
-        requires part { other.root ≡ false }
-        ensures joined { seat.new ≡ joined seat.old other }
-        ensures settled { IsAlone seat.new → AllFirsts seat.new.home seat.new.log }
-    {
-        self.take_in(seat, other);
-        let words = &self.table.shared;
-        // A join tells nothing of the words. This load does, once no seat is out.
-        words.load::<Load>(&mut seat.seat, 0);
-    }
+    /// What the table keeps between any two steps gives `StampWordsRule` of its live seats, in every schedule.
+    ///
+    /// It is a law, and does nothing when it runs.
+    pub fn stand_for_logs()
+        ensures { StandFor IsGreatest StampWordsRule }
+    {}
 }

@@ -2,14 +2,14 @@
 //!
 //! Word 0 belongs to the table: splits and joins load it. The word of vertex `v` is word `v + 1`.
 ghost use Rattle.std.specs.Prelude.{◌≡◌, ℕ, ◌+◌, ◌<◌, ◌≤◌, List, [], ◌∷◌, true, false, length, drop, IfOk};
-ghost use Rattle.jul_words.specs.Seats.{IsSeatOf, rooted, named, beside, lent, joined};
+ghost use Rattle.jul_words.specs.Seats.{IsSeatOf, IsAlone, rooted, named, beside, lent, joined};
 ghost use Rattle.jul_words.specs.Views.{lives, spent};
-ghost use Rattle.jul_words.specs.Ruled.{Ruled};
+ghost use Rattle.jul_words.specs.Ruled.{Ruled, Looks, IsNothing, InAnyTable};
 ghost use Rattle.jul_words.specs.Keys.{home_by};
 
 use crate::tags::{Names, Tag};
 use crate::views::View;
-use atomic_table::{Join, Seat, Split, Table, TableRule};
+use atomic_table::{Join, Play, Seat, Split, Table, TableRule};
 use std::alloc::{AllocError, Global};
 use std::marker::{Model, PhantomData};
 
@@ -17,9 +17,16 @@ use std::marker::{Model, PhantomData};
 pub trait Meaning {
     ghost use Rattle.std.specs.Prelude.{ℕ, List};
     ghost use Rattle.jul_base.specs.Logs.{Entry, Home};
+    ghost use Rattle.jul_words.specs.Ruled.{Settles};
 
     // Of the home, the words and the history, whose newest entry stands first.
     ghost holds: { Home → List ℕ → List Entry → Type 0 };
+    // What the log of a root with none out says by itself.
+    ghost is_settled: { Home → List Entry → Type 0 };
+
+    /// What the words mean settles a log with the entries of the history. It does nothing when it runs.
+    fn settle()
+        ensures { Settles holds is_settled };
 }
 
 /// The starts and the floors of a table, which contracts alone see.
@@ -58,6 +65,15 @@ impl Join<View> for Kindred {
     ghost both = { λ v w. lives (joined v.seat w.seat) };
 
     ghost spent = { spent };
+}
+
+// A load of the table's own word.
+struct Glance<P: Meaning> {
+    marker: PhantomData<P>,
+}
+
+impl<P: Meaning> Play<(), View> for Glance<P> {
+    ghost then = { Looks IsNothing (InAnyTable P.is_settled) };
 }
 
 /// A table. Contracts see the numbers that no two tables share.
@@ -114,11 +130,14 @@ impl<P: Meaning> Words<P> {
         ))
     }
 
-    /// A seat of the root's home with an empty log. One load of word 0.
+    /// A seat of the same table with an empty log, for another thread. Only the root is split.
+    ///
+    /// One load of word 0.
     #[inline]
-    pub(crate) fn part_off(&self, seat: &mut WordSeat<P>) -> WordSeat<P>
+    pub fn split(&self, seat: &mut WordSeat<P>) -> WordSeat<P>
         requires seat { IsSeatOf self.now seat.old }
         requires root { seat.old.root ≡ true }
+        requires room { seat.old.out < 65536 }
         ensures root { seat.new ≡ lent seat.old }
         ensures part { result ≡ beside seat.old }
     {
@@ -129,12 +148,33 @@ impl<P: Meaning> Words<P> {
         }
     }
 
+    /// The other seat's log follows that of the root, and one seat fewer is out.
+    ///
+    /// Two loads of word 0: the step that joins tells nothing of the words, and the second load does, once no
+    /// seat is out.
+    #[inline]
+    pub fn join(&self, seat: &mut WordSeat<P>, other: WordSeat<P>)
+        requires seat { IsSeatOf self.now seat.old }
+        requires kin { other.home ≡ seat.old.home }
+        requires root { seat.old.root ≡ true }
+        requires some_out { 0 < seat.old.out }
+        requires part { other.root ≡ false }
+        ensures joined { seat.new ≡ joined seat.old other }
+        ensures settled { IsAlone seat.new → P.is_settled seat.new.home seat.new.log }
+    {
+        self.take_in(seat, other);
+        P::settle();
+        let words = &self.table.shared;
+        words.load::<Glance<P>>(&mut seat.seat, 0);
+    }
+
     /// The other seat's log follows that of the root. One load of word 0.
     #[inline]
     pub(crate) fn take_in(&self, seat: &mut WordSeat<P>, other: WordSeat<P>)
         requires seat { IsSeatOf self.now seat.old }
         requires kin { other.home ≡ seat.old.home }
-        requires root { (seat.old.root ≡ true) × (0 < seat.old.out) }
+        requires root { seat.old.root ≡ true }
+        requires some_out { 0 < seat.old.out }
         requires part { other.root ≡ false }
         ensures { seat.new ≡ joined seat.old other }
     {

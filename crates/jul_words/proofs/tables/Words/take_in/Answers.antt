@@ -14,5 +14,5 @@ join_seat-requires g c =
       beside.same,
       j.0,
       at.some_word,
-      joins _ _ _ _ _ _ i.1 (ap (λ (t : Seat). t.root) is ∙ c.requires.root.0) (subst (λ (t : Seat). 0 < t.out) (sym is) c.requires.root.1) j.1 (ap (λ (t : Seat). t.root) other ∙ c.requires.part),
+      joins _ _ _ _ _ _ i.1 (ap (λ (t : Seat). t.root) is ∙ c.requires.root) (subst (λ (t : Seat). 0 < t.out) (sym is) c.requires.some_out) j.1 (ap (λ (t : Seat). t.root) other ∙ c.requires.part),
     )

@@ -2,7 +2,7 @@ use Rattle.std.proofs.Common.{ap, ◌∙◌}
 use Rattle.jul_words.specs.Seats.{Seat}
 use Rattle.jul_words.proofs.Names.{meets}
 use Rattle.jul_words.proofs.Ruling.{splits}
-use Rattle.jul_words.proofs.tables.Words.part_off.Goals as goal
+use Rattle.jul_words.proofs.tables.Words.split.Goals as goal
 
 pub split_seat-other-requires : goal.split_seat-other-requires
 split_seat-other-requires g c =
