@@ -13,7 +13,8 @@ use Rattle.jul_bucket.specs.Places.{AllNone}
 use Rattle.jul_core.specs.PeelPlaces.{HasAddsOf}
 use Rattle.jul_count.specs.Adds.{weight_from, add_weight}
 use Rattle.jul_core.proofs.PeelStatements.{AddsKeep, AddsAreAll}
-use Rattle.jul_count.proofs.SumLaws.{sum_by-same_in, sum_by-same}
+use Rattle.jul_base.proofs.CountLaws.{sum_by-same_in}
+use Rattle.jul_count.proofs.SumLaws.{sum_by-same}
 use Rattle.jul_core.proofs.PlaceSumLaws.{below-more}
 use Rattle.jul_core.proofs.PeelStatementLaws.{places_are_counted_once}
 

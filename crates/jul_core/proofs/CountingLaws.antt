@@ -1,21 +1,13 @@
 -- Sums over lists: term by term, over a list that rises, over the two parts of a filter.
-use Rattle.jul_count.proofs.SumLaws.{has_later, sum_by-same_in}
-use Rattle.std.proofs.Common.{◌≡◌, ℕ, suc, ◌+◌, ◌<◌, true, eqb, cond, List, [], ◌∷◌, get_or, sym, refl, arith, inl, inr}
+use Rattle.std.proofs.Common.{◌≡◌, ℕ, suc, ◌+◌, ◌<◌, true, eqb, cond, List, [], ◌∷◌, get_or, sym, arith, inl, inr}
 use Rattle.std.specs.List.{sum_by, count_by, AllPairs}
 use Rattle.std.specs.List.Sorted.{IsStrictlyIncreasing}
 use Rattle.std.proofs.lemmas.Bool.{cases_Bool, cases_eq, both_ways, cond-true, cond-false, or_left, or_cases, eq-eqb, eqb-true, ne_eqb}
 use Rattle.std.proofs.lemmas.List.Sums.{sum_by-cons}
 use Rattle.std.proofs.lemmas.List.Kept.{AllPairs-from_increasing}
 use Rattle.jul_base.specs.Sets.{has}
+use Rattle.jul_base.proofs.CountLaws.{has_later, sum_by-add, sum_by-same_in, sum_by-zeros}
 use Rattle.jul_base.proofs.SetLaws.{Contains-from_has}
-
-pub sum_by-add : (f g : ℕ → ℕ) (xs : List ℕ) → sum_by (λ x. f x + g x) xs ≡ sum_by f xs + sum_by g xs
-sum_by-add f g [] = refl
-sum_by-add f g (x ∷ xs) = omega (arith, sum_by-cons (λ y. f y + g y) x xs, sum_by-cons f x xs, sum_by-cons g x xs, sum_by-add f g xs)
-
-pub sum_by-zeros : (xs : List ℕ) → sum_by (λ (x : ℕ). 0) xs ≡ 0
-sum_by-zeros [] = refl
-sum_by-zeros (x ∷ xs) = omega (arith, sum_by-cons (λ (y : ℕ). 0) x xs, sum_by-zeros xs)
 
 -- ---- a list that rises
 

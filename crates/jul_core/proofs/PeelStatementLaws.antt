@@ -19,7 +19,7 @@ use Rattle.jul_bucket.specs.declared.draws.Draw.{Draw}
 use Rattle.jul_bucket.specs.Places.{ids_at, AllNone}
 use Rattle.jul_count.specs.Adds.{places_of}
 use Rattle.jul_core.proofs.PeelStatements.{DegreesStart, RoundsKeep, RoundsAreFew, EachIsDrawnOnce, ColumnsAreRight, PlacesAreCountedOnce}
-use Rattle.jul_count.proofs.SumLaws.{has_here, has_later}
+use Rattle.jul_base.proofs.CountLaws.{has_here, has_later}
 use Rattle.jul_core.proofs.StageLaws.{IsStage, IsStage-at}
 use Rattle.jul_core.proofs.RoundLaws.{place-left, place-small, left-from_place, first-is_bound, ids-are_taken, places-next}
 use Rattle.jul_core.proofs.DrawLaws.{drawn_before, taken_once, length-draws, draw_at-is, draws-more, draws_sum, rounds-few}

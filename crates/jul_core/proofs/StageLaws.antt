@@ -19,7 +19,7 @@ use Rattle.jul_base.proofs.SetLaws.{IsStrictlyIncreasing-below}
 use Rattle.jul_base.proofs.PeelLaws.{below_from_has, has_filter, has_kept}
 use Rattle.jul_count.specs.Counts.{reaching}
 use Rattle.jul_core.proofs.CountingLaws.{count_by-has}
-use Rattle.jul_count.proofs.SumLaws.{has_here, has_later, sum_by-same_in}
+use Rattle.jul_base.proofs.CountLaws.{has_here, has_later, sum_by-same_in}
 
 -- ---- the least value of a list
 

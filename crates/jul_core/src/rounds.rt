@@ -66,7 +66,13 @@ fn lower_reached<R: Threads + Sync, G: Gate>(
     ensures { IfOk result (λ r. HasRound rows.now bucket drawn.items seat r buckets.old buckets.new) }
 {
     let n = rows.n();
-    let crew = team.for_work(reach_of(rows, drawn.as_slice()));
+    // One worker needs no count of the work.
+    let work = if team.workers == 1 {
+        0
+    } else {
+        reach_of(rows, drawn.as_slice())
+    };
+    let crew = team.for_work(work);
     let from = VertexSubset::from_increasing(alloc, n, drawn);
     let (list, seat) = edge_map_count(rt, alloc, &crew, rows, &from, counts, seat)?;
     let moves = moves_down(rt, alloc, team, list.as_slice(), bucket, buckets)?;

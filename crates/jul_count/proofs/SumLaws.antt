@@ -1,31 +1,9 @@
 -- Sums over lists: term by term, over mapped lists, and logs that are weighed.
-use Rattle.std.proofs.Common.{◌≡◌, ℕ, ◌≤◌, List, [], ◌∷◌, map, refl, arith}
+use Rattle.std.proofs.Common.{◌≡◌, ℕ, List, [], ◌∷◌, map, refl, arith}
 use Rattle.std.specs.List.{sum_by, flat_map}
 use Rattle.std.proofs.lemmas.List.Sums.{sum_by-cons, sum_by-append}
 use Rattle.jul_base.specs.Logs.{Entry}
-use Rattle.jul_base.specs.Sets.{has}
-use Rattle.std.proofs.lemmas.Bool.{or_left, or_right, eq-eqb}
-use Rattle.std.proofs.Common.{true}
 use Rattle.jul_words.specs.Weights.{weigh}
-
-pub has_here : (x : ℕ) (xs : List ℕ) → has (x ∷ xs) x ≡ true
-has_here x xs = or_left _ _ (eq-eqb x x refl)
-
-pub has_later : (x : ℕ) (xs : List ℕ) (y : ℕ) → has xs y ≡ true → has (x ∷ xs) y ≡ true
-has_later x xs y h = or_right _ _ h
-
-pub sum_by-le_in : (f g : ℕ → ℕ) (xs : List ℕ) → ((x : ℕ) → has xs x ≡ true → f x ≤ g x) → sum_by f xs ≤ sum_by g xs
-sum_by-le_in f g [] le = omega arith
-sum_by-le_in f g (x ∷ xs) le =
-    let rest : sum_by f xs ≤ sum_by g xs = sum_by-le_in f g xs (λ y h. le y (has_later x xs y h)) in
-    let here : f x ≤ g x = le x (has_here x xs) in
-    omega (arith, sum_by-cons f x xs, sum_by-cons g x xs)
-
-pub sum_by-same_in : (f g : ℕ → ℕ) (xs : List ℕ) → ((x : ℕ) → has xs x ≡ true → f x ≡ g x) → sum_by f xs ≡ sum_by g xs
-sum_by-same_in f g xs e =
-    let up : sum_by f xs ≤ sum_by g xs = sum_by-le_in f g xs (λ x h. omega (arith, e x h)) in
-    let down : sum_by g xs ≤ sum_by f xs = sum_by-le_in g f xs (λ x h. omega (arith, e x h)) in
-    omega arith
 
 pub sum_by-same : {X : Type 0} (f g : X → ℕ) (xs : List X) → ((x : X) → f x ≡ g x) → sum_by f xs ≡ sum_by g xs
 sum_by-same f g [] same = refl

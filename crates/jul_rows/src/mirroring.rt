@@ -1,12 +1,13 @@
 //! A test that finds a symmetric graph symmetric, with little memory.
 //!
-//! Each place from `u` to `w` takes the next entry of the row of `w` that wasn't taken yet. Where it is `u` each time, no edge
-//! leads there more often than back. In a symmetric graph with sorted rows it is, since the vertices come in order. Rows that
-//! aren't sorted are copied and sorted first. A no says nothing of the graph.
+//! Each place from `u` to a greater `w` takes the next entry of the row of `w` that wasn't taken yet. Where it is `u` each
+//! time, and each entry below `w` is taken at the end, edges lead there as often as back. In a symmetric graph with sorted
+//! rows it is so, since the vertices come in order. Rows that aren't sorted are copied and sorted first. A no says nothing of
+//! the graph.
 ghost use Rattle.std.specs.Prelude.{◌≡◌, ℕ, ◌+◌, ◌<◌, ◌≤◌, ◌^◌, true, length, slice_index, All, IfOk, OnOk, IsTrue};
-ghost use Rattle.jul_base.specs.Graph.{vertices, row_end, IsLawful};
+ghost use Rattle.jul_base.specs.Graph.{vertices, places, IsLawful};
 ghost use Rattle.jul_base.specs.Symmetry.{IsSymmetric};
-ghost use Rattle.jul_rows.specs.Mirrors.{IsRearranged, IsRearrangedTo, HasTaken};
+ghost use Rattle.jul_rows.specs.Mirrors.{IsRearranged, IsRearrangedTo, HasTaken, AreUsedUp};
 
 use crate::out_rows::Rows;
 use jul_base::MAX_M;
@@ -58,7 +59,7 @@ fn put_sorted(
     Ok(())
 }
 
-// Whether each place takes the next entry in the mirror.
+// Whether each place to a greater vertex takes the next entry in the mirror, and none below a row's own vertex is left.
 fn takes_each(alloc: Global, rows: &Rows, mirror: &[u32]) -> Result<bool, AllocError>
     requires { IsRearranged rows.now mirror.now }
 
@@ -71,10 +72,11 @@ fn takes_each(alloc: Global, rows: &Rows, mirror: &[u32]) -> Result<bool, AllocE
             return Ok(false);
         }
     }
-    Ok(stay_within(rows, next.as_slice()))
+    Ok(are_used_up(rows, mirror, next.as_slice()))
 }
 
-// Whether each entry of the row of `u` takes an entry `u`. From the marks on the entries of each vertex aren't taken yet.
+// Whether each entry above `u` of the row of `u` takes an entry `u`. From the marks on the entries of each vertex aren't
+// taken yet.
 fn take_row(u: u32, row: &[u32], mirror: &[u32], next: &mut [u32]) -> bool
     requires inside { All (λ w. w < length next.old) row.now }
     requires few { length mirror.now < 2 ^ 32 }
@@ -83,6 +85,9 @@ fn take_row(u: u32, row: &[u32], mirror: &[u32], next: &mut [u32]) -> bool
     ensures { IsTrue result → HasTaken u row.now mirror.now next.old next.new }
 {
     for w in row {
+        if *w <= u {
+            continue;
+        }
         let at = next[*w as usize];
         if at as usize >= mirror.len() {
             return false;
@@ -95,16 +100,28 @@ fn take_row(u: u32, row: &[u32], mirror: &[u32], next: &mut [u32]) -> bool
     true
 }
 
-// Whether no mark is past the end of its row.
-fn stay_within(rows: &Rows, next: &[u32]) -> bool
-    requires { length next.now ≡ vertices rows.now }
+// Whether no mark is past the end of its row, and no entry from a mark on is below its row's vertex.
+fn are_used_up(rows: &Rows, mirror: &[u32], next: &[u32]) -> bool
+    requires size { length next.now ≡ vertices rows.now }
+    requires mirror { length mirror.now ≡ places rows.now }
 
-    ensures { IsTrue result → (w : ℕ) → w < vertices rows.now → slice_index next.now w ≤ row_end rows.now w }
+    ensures { IsTrue result → AreUsedUp rows.now mirror.now next.now (vertices rows.now) }
 {
     for w in 0..rows.n() {
-        if next[w as usize] > rows.end_place(w) {
+        let end = rows.end_place(w);
+        if next[w as usize] > end {
+            return false;
+        }
+        if !are_above(w, &mirror[next[w as usize] as usize..end as usize]) {
             return false;
         }
     }
     true
+}
+
+// Whether none of these is below `w`.
+fn are_above(w: u32, entries: &[u32]) -> bool
+    ensures { IsTrue result → All (λ x. w ≤ x) entries.now }
+{
+    entries.iter().all(|x| *x >= w)
 }

@@ -1,7 +1,7 @@
-use Rattle.std.proofs.Common.{◌≡◌, ◌+◌, ◌<◌, ◌≤◌, ℕ, List, slice_index, sym, subst, arith}
-use Rattle.jul_base.specs.Graph.{vertices, row, row_end}
+use Rattle.std.proofs.Common.{◌≡◌, ◌+◌, ◌<◌, ℕ, List, sym, subst, arith}
+use Rattle.jul_base.specs.Graph.{vertices, row}
 use Rattle.jul_base.proofs.ListLaws.{written}
-use Rattle.jul_rows.specs.Mirrors.{HasTaken, HaveTaken}
+use Rattle.jul_rows.specs.Mirrors.{HasTaken, HaveTaken, AreUsedUp}
 use Rattle.jul_rows.proofs.MirrorLaws.{have_more, mirrored_symmetric}
 use Rattle.jul_rows.proofs.mirroring.takes_each.Goals as goal
 
@@ -22,4 +22,4 @@ returns c is_true =
     let g = c.args.rows.now in
     let end : c.loop-u.u ≡ vertices g = omega (arith, c.loop-u-test.false, c.loop-u.auto.u-end, c.n-u-end.ensures.count) in
     mirrored_symmetric g c.m.ensures.lawful c.args.mirror.now c.loop-u.next.items c.requires (subst (λ k. HaveTaken g c.args.mirror.now k c.loop-u.next.items) end c.loop-u.invariant)
-    (let P : List ℕ → Type 0 = λ next. (w : ℕ) → w < vertices g → slice_index next w ≤ row_end g w in subst P c.as_slice-2.ensures.value (c.stay_within.ensures is_true))
+    (subst (λ next. AreUsedUp g c.args.mirror.now next (vertices g)) c.as_slice-2.ensures.value (c.are_used_up.ensures is_true))
