@@ -14,7 +14,6 @@ use Rattle.jul_base.proofs.SetLaws.{member_cases}
 use Rattle.jul_base.proofs.DistanceListLaws.{distance_list-place}
 use Rattle.jul_base.proofs.CappedLaws.{capped_are_distances}
 use Rattle.jul_words.specs.Seats.{Seat}
-use Rattle.jul_subset.specs.Subsets.{Subset}
 use Rattle.jul_dist.specs.declared.limits.TheConstants.{MAX_SUM}
 use Rattle.jul_words.specs.Least.{word_of}
 use Rattle.jul_dist.specs.Relaxing.{IsOffered, HasRelaxed, AreAboveFloors}
@@ -93,7 +92,7 @@ module _ (g : RawGraph) (lawful : IsLawful g) (sources : List ℕ) (sources_in :
       omega (arith, ap (λ l. get_or l (target g p) 0) floors, place)
 
   -- ---- after it
-  module _ (old new : Seat) (lowered : Subset) (values' places' : List ℕ) (floors : old.home.floors ≡ distance_list g sources)
+  module _ (old new : Seat) (lowered : List ℕ) (values' places' : List ℕ) (floors : old.home.floors ≡ distance_list g sources)
       (exact : (v : ℕ) → v < vertices g → word_of old v ≡ get_or values v 0)
       (exact' : (v : ℕ) → v < vertices g → word_of new v ≡ get_or values' v 0)
       (relaxed : HasRelaxed g ids values (b * delta) old new lowered)

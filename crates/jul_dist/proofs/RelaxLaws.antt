@@ -1,9 +1,9 @@
 -- What relaxations over the places of members leave of the words.
-use Rattle.std.proofs.Common.{◌≡◌, ℕ, ◌+◌, ◌<◌, ◌≤◌, Bool, true, false, List, [], ◌∷◌, ◌++◌, length, get_or, refl, sym, ap, ◌∙◌, subst, arith, inl, inr}
+use Rattle.std.proofs.Common.{◌≡◌, ℕ, ◌+◌, ◌<◌, ◌≤◌, Bool, true, false, List, [], ◌∷◌, ◌++◌, length, map, get_or, refl, sym, ap, ◌∙◌, subst, arith, inl, inr}
 use Rattle.std.specs.Prelude.{nat_lt}
 use Rattle.std.specs.List.{Contains, All}
 use Rattle.std.proofs.lemmas.Bool.{cases_lt, lt-ltb}
-use Rattle.std.proofs.lemmas.List.Elements.{All-nil, All-cons, All-head, All-tail, All-append, All-contains, All-weaker}
+use Rattle.std.proofs.lemmas.List.Elements.{All-nil, All-cons, All-head, All-tail, All-append, All-contains, All-weaker, All-from_get_or, Contains-get_or}
 use Rattle.jul_base.specs.declared.graphs.RawGraph.{RawGraph}
 use Rattle.jul_base.specs.Graph.{vertices, target, weight, IsPlaceOf, IsLawful}
 use Rattle.jul_base.specs.Logs.{Log, Entry, LOWER}
@@ -15,13 +15,14 @@ use Rattle.jul_words.specs.Seats.{Seat, IsAlone, floor_of, start_of, entry, logs
 use Rattle.jul_words.specs.Least.{least, lowering, Marks, IsSettled, word_of}
 use Rattle.jul_words.proofs.Marking.{at_here, at_parts, mark_parts}
 use Rattle.jul_words.proofs.LaterLaws.{least_falls, least_offered, least_fell}
-use Rattle.jul_subset.specs.Subsets.{Subset}
 use Rattle.jul_edge.specs.declared.functions.Direction.{Direction}
 use Rattle.jul_edge.specs.Edges.{Application, application, IsWanted}
-use Rattle.jul_edge.specs.EdgeMaps.{IsMapped}
+use Rattle.jul_edge.specs.EdgeMaps.{IsMapped, listed}
+use Rattle.jul_subset.proofs.ApplicationLaws.{All-from_map}
+use Rattle.jul_edge.proofs.ApplyingLaws.{answered_true-below, wanted_target}
 use Rattle.jul_edge.proofs.MappedLaws.{EdgeDone, added_of, log_grew as log_behind, OneOf, applied_to, made_wanted, added_by, entries_have, TellsMarks, fell_hit}
 use Rattle.jul_dist.specs.declared.limits.TheConstants.{MAX_SUM}
-use Rattle.jul_dist.specs.Relaxing.{offer, offer_of, Relaxes, AreSums, IsOffered, HasRelaxed}
+use Rattle.jul_dist.specs.Relaxing.{offer, offer_of, Relaxes, AreSums, IsOffered, HasRelaxed, may_fall}
 
 -- ---- one application
 
@@ -92,11 +93,16 @@ module _ (values : List ℕ) where
 
 -- ---- all of them
 
-abbrev pub IsRelaxed : Direction → RawGraph → List ℕ → List ℕ → ℕ → Seat → Seat → Subset → Type 0
-IsRelaxed by g members values least old new subset =
-    IsMapped by g members (λ v. nat_lt least (get_or values v 0)) (λ a answer added. Relaxes values a answer added) (old.log ∷ []) (new.log ∷ []) subset
+-- a vertex that has more than the least is wanted, whether settled ones are skipped or not
+wanted_more : (skips : Bool) (least' : ℕ) (values : List ℕ) (v : ℕ) → least' < get_or values v 0 → may_fall skips least' values v ≡ true
+wanted_more true least' values v more = lt-ltb least' (get_or values v 0) more
+wanted_more false least' values v more = refl
 
-module _ (by : Direction) (g : RawGraph) (lawful : IsLawful g) (members values : List ℕ) (least' : ℕ) (old new : Seat) (subset : Subset) (home : new.home ≡ old.home) (mapped : IsRelaxed by g members values least' old new subset) where
+abbrev pub IsRelaxed : Bool → Direction → RawGraph → List ℕ → List ℕ → ℕ → Seat → Seat → List ℕ → Type 0
+IsRelaxed skips by g members values least old new lowered =
+    IsMapped by g members (may_fall skips least values) (λ a answer added. Relaxes values a answer added) (old.log ∷ []) (new.log ∷ []) (listed by (vertices g) lowered)
+
+module _ (skips : Bool) (by : Direction) (g : RawGraph) (lawful : IsLawful g) (members values : List ℕ) (least' : ℕ) (old new : Seat) (lowered : List ℕ) (home : new.home ≡ old.home) (mapped : IsRelaxed skips by g members values least' old new lowered) where
   abbrev entries : List Entry
   entries = entries_of (added_of mapped.done)
 
@@ -123,9 +129,9 @@ module _ (by : Direction) (g : RawGraph) (lawful : IsLawful g) (members values :
       let v : ℕ = target g p in
       let c : ℕ = offer values u (weight g p) in
       let a : Application = application by u p v (weight g p) in
-      let w : IsWanted by g members (λ v. nat_lt least' (get_or values v 0)) a =
-      record { by_is = refl; member = member; place = at; target_is = refl; weight_is = refl; target_wanted = lt-ltb least' (get_or values v 0) more } in
-      let found : OneOf mapped.done (λ d. d.to ≡ a) = applied_to by g members (λ v. nat_lt least' (get_or values v 0)) mapped.done lawful mapped.once a w in
+      let w : IsWanted by g members (may_fall skips least' values) a =
+      record { by_is = refl; member = member; place = at; target_is = refl; weight_is = refl; target_wanted = wanted_more skips least' values v more } in
+      let found : OneOf mapped.done (λ d. d.to ≡ a) = applied_to by g members (may_fall skips least' values) mapped.done lawful mapped.once a w in
       let r : Relaxes values a found.one.answer found.one.added = subst (λ b. Relaxes values b found.one.answer found.one.added) found.holds (gave found.one found.there) in
       let some : 0 < weigh (is_at v c) (first_part found.one.added) = made_entry values a found.one.answer found.one.added r within in
       omega (arith, word_is v, least_offered v (start_of old.home v) c old.log entries (omega (arith, some, entries_have (is_at v c) mapped.done found.one found.there)))
@@ -142,7 +148,7 @@ module _ (by : Direction) (g : RawGraph) (lawful : IsLawful g) (members values :
       let seen : (offer_of values d.to ≤ MAX_SUM) × (0 < is_at v n (entry LOWER d.to.target (offer_of values d.to) (counted d.answer))) =
       shown values (is_at v n) d.to d.answer d.added (gave d by_one.there) by_one.holds in
       let parts : (d.to.target ≡ v) × (offer_of values d.to ≡ n) = at_parts v n (entry LOWER d.to.target (offer_of values d.to) (counted d.answer)) seen.1 in
-      let w : IsWanted by g members (λ v. nat_lt least' (get_or values v 0)) d.to = made_wanted by g members (λ v. nat_lt least' (get_or values v 0)) mapped.done mapped.once d by_one.there in
+      let w : IsWanted by g members (may_fall skips least' values) d.to = made_wanted by g members (may_fall skips least' values) mapped.done mapped.once d by_one.there in
       record {
         source = d.to.source;
         place = d.to.place;
@@ -154,7 +160,7 @@ module _ (by : Direction) (g : RawGraph) (lawful : IsLawful g) (members values :
       }
 
   -- and the vertex is in the subset
-  pub fell_member : (v : ℕ) → IsSettled new.home new.log → v < length old.home.starts → word_of new v < word_of old v → Contains subset.members v
+  pub fell_member : (v : ℕ) → IsSettled new.home new.log → v < length old.home.starts → word_of new v < word_of old v → Contains lowered v
   fell_member v settled lt fell =
       let start : ℕ = start_of old.home v in
       let here : v < length new.home.starts = subst (λ h. v < length h.starts) (sym home) lt in
@@ -163,10 +169,18 @@ module _ (by : Direction) (g : RawGraph) (lawful : IsLawful g) (members values :
       (mapped.members_are v).1
       (fell_hit (λ a answer added. Relaxes values a answer added) (tells values) mapped.done mapped.applied.each v start old.log marks' (omega (arith, fell, word_is v)))
 
+  -- what is listed are vertices
+  lowered_in : (v : ℕ) → Contains lowered v → v < vertices g
+  lowered_in v there =
+      answered_true-below (vertices g) v mapped.done
+      (All-from_map (λ (a : Application). a.target < vertices g) (λ (d : EdgeDone). d.to) mapped.done
+      (All-weaker (IsWanted by g members (may_fall skips least' values)) (λ (a : Application). a.target < vertices g) (λ a w. wanted_target by g members (may_fall skips least' values) a lawful w) (map (λ (d : EdgeDone). d.to) mapped.done) mapped.once.no_other))
+      ((mapped.members_are v).0 there)
+
   pub has_relaxed : IsAlone new → IsSettled new.home new.log → length old.home.starts ≡ vertices g → All (λ u. least' ≤ get_or values u 0) members →
-      HasRelaxed g members values least' old new subset
+      HasRelaxed g members values least' old new lowered
   has_relaxed alone settled words ahead = record {
-    n = mapped.n;
+    within = All-from_get_or (λ v. v < vertices g) lowered 0 (λ k lt. lowered_in (get_or lowered k 0) (Contains-get_or lowered k 0 lt));
     home = home;
     alone = alone;
     settled = settled;
@@ -183,13 +197,13 @@ module _ (by : Direction) (g : RawGraph) (lawful : IsLawful g) (members values :
   }
 
 -- the same after a step that left the root as it was, which told that it is settled
-pub round_relaxed : (by : Direction) (g : RawGraph) (members values : List ℕ) (least' : ℕ) (old mid new : Seat) (subset : Subset) → IsLawful g →
-    IsRelaxed by g members values least' old mid subset → mid.home ∷ [] ≡ old.home ∷ [] → mid.root ≡ true → mid.out ≡ 0 →
+pub round_relaxed : (skips : Bool) (by : Direction) (g : RawGraph) (members values : List ℕ) (least' : ℕ) (old mid new : Seat) (lowered : List ℕ) → IsLawful g →
+    IsRelaxed skips by g members values least' old mid lowered → mid.home ∷ [] ≡ old.home ∷ [] → mid.root ≡ true → mid.out ≡ 0 →
     new ≡ mid → (IsAlone new → IsSettled new.home new.log) → length old.home.starts ≡ vertices g → All (λ u. least' ≤ get_or values u 0) members →
-    HasRelaxed g members values least' old new subset
-round_relaxed by g members values least' old mid new subset lawful mapped homes root out same settles words ahead =
+    HasRelaxed g members values least' old new lowered
+round_relaxed skips by g members values least' old mid new lowered lawful mapped homes root out same settles words ahead =
     let home : mid.home ≡ old.home = cc in
     let alone : IsAlone mid = (root, out) in
     let settles' : IsAlone mid → IsSettled mid.home mid.log = subst (λ (s : Seat). IsAlone s → IsSettled s.home s.log) same settles in
-    subst (λ s. HasRelaxed g members values least' old s subset) (sym same)
-    (has_relaxed by g lawful members values least' old mid subset home mapped alone (settles' alone) words ahead)
+    subst (λ s. HasRelaxed g members values least' old s lowered) (sym same)
+    (has_relaxed skips by g lawful members values least' old mid lowered home mapped alone (settles' alone) words ahead)

@@ -13,10 +13,9 @@ use Rattle.jul_base.specs.Graph.{vertices, IsLawful}
 use Rattle.jul_base.specs.DistanceList.{distance_list}
 use Rattle.jul_base.specs.Logs.{Home}
 use Rattle.jul_words.specs.Seats.{Seat, IsSeatOf}
-use Rattle.jul_subset.specs.Subsets.{Subset, IsSubset}
-use Rattle.jul_edge.specs.declared.functions.Direction.{Direction}
-use Rattle.jul_edge.specs.EdgeMaps.{CanStamp, HasStamped}
-use Rattle.jul_edge.proofs.MappedLaws.{stamps_later}
+use Rattle.jul_subset.specs.Subsets.{IsSubset}
+use Rattle.jul_edge.specs.declared.functions.Direction.TheVariants.{Push}
+use Rattle.jul_edge.specs.EdgeMaps.{listed}
 use Rattle.jul_dist.specs.declared.limits.TheConstants.{MAX_SUM}
 use Rattle.jul_bucket.specs.declared.orders.Order.{Order}
 use Rattle.jul_bucket.specs.declared.orders.Order.TheVariants.{Increasing}
@@ -36,8 +35,8 @@ use Rattle.jul_dist.proofs.MovingLaws.{moves_few, placed_there, placed_still, mo
 use Rattle.jul_subset.proofs.IncreasingLaws.{length_below}
 use Rattle.jul_dist.proofs.AdvanceLaws.{div-le, AreIn, ArePlaced, all_ahead, bucket_small, above_floors, advances, not_behind, ended}
 
-module _ (g : RawGraph) (lawful : IsLawful g) (sources : List ℕ) (sources_in : All (λ s. s < vertices g) sources) (delta : ℕ) (some_delta : 1 ≤ delta) (table stamp_table : List ℕ) (home stamp_home : Home)
-    (values : List ℕ) (seat stamp_seat : Seat) (s : State) (h : IsSearching g sources delta table stamp_table home stamp_home values seat stamp_seat s) (b : ℕ) (ids : List ℕ) (mid : State) (drawn : IsDrawn s b ids mid) where
+module _ (g : RawGraph) (lawful : IsLawful g) (sources : List ℕ) (sources_in : All (λ s. s < vertices g) sources) (delta : ℕ) (some_delta : 1 ≤ delta) (table : List ℕ) (home : Home)
+    (values : List ℕ) (seat : Seat) (s : State) (h : IsSearching g sources delta table home values seat s) (b : ℕ) (ids : List ℕ) (mid : State) (drawn : IsDrawn s b ids mid) where
   abbrev a : IsAdvancing g sources delta values s.places s.draws
   a = h.advancing
 
@@ -101,15 +100,13 @@ module _ (g : RawGraph) (lawful : IsLawful g) (sources : List ℕ) (sources_in :
   mid_draws : mid.draws ≡ s.draws ++ Drawn ∷ []
   mid_draws = ap (λ (t : State). t.draws) drawn.after
 
-  round_is : length mid.draws ≡ length s.draws + 1
-  round_is = omega (arith, ap (λ (l : List Draw). length l) mid_draws, length-append s.draws (Drawn ∷ []))
+  -- the drawn vertices as a subset
+  pub is_subset : IsSubset (listed Push (vertices g) ids)
+  is_subset = record { few = omega (arith, lawful.few_vertices); increasing = increasing; within = within }
 
-  pub stamps : CanStamp (vertices g) stamp_table (length mid.draws) stamp_seat
-  stamps = subst (λ n. CanStamp (vertices g) stamp_table n stamp_seat) (sym round_is) h.stamps
-
-  module _ (seat' : Seat) (lowered : Subset) (relaxed : HasRelaxed g ids values (b * delta) seat seat' lowered) (is_subset : IsSubset lowered) where
-    pub lowered_in : All (λ v. v < length values) lowered.members
-    lowered_in = All-weaker (λ v. v < lowered.n) (λ v. v < length values) (λ v lt. omega (arith, lt, relaxed.n, a.size)) lowered.members is_subset.within
+  module _ (seat' : Seat) (lowered : List ℕ) (relaxed : HasRelaxed g ids values (b * delta) seat seat' lowered) where
+    pub lowered_in : All (λ v. v < length values) lowered
+    lowered_in = All-weaker (λ v. v < vertices g) (λ v. v < length values) (λ v lt. omega (arith, lt, a.size)) lowered relaxed.within
 
     pub words' : length seat'.home.starts ≡ length values
     words' = ap (λ (x : Home). length x.starts) relaxed.home ∙ words ∙ sym a.size
@@ -117,7 +114,7 @@ module _ (g : RawGraph) (lawful : IsLawful g) (sources : List ℕ) (sources_in :
     pub table' : IsSeatOf table seat'
     table' = ap (λ (x : Home). x.table) relaxed.home ∙ h.of_table
 
-    module _ (values' fell : List ℕ) (taken : HasTaken (word_of seat') values values' lowered.members fell) where
+    module _ (values' fell : List ℕ) (taken : HasTaken (word_of seat') values values' lowered fell) where
       falls : (v : ℕ) → v < vertices g → word_of seat' v ≤ get_or values v 0
       falls v lt = omega (arith, relaxed.falls v, h.exact v lt)
 
@@ -125,7 +122,7 @@ module _ (g : RawGraph) (lawful : IsLawful g) (sources : List ℕ) (sources_in :
       pub exact' : (v : ℕ) → v < vertices g → word_of seat' v ≡ get_or values' v 0
       exact' v lt = elim (cases_lt (word_of seat' v) (get_or values v 0)) [
         | inl less ↦
-            let there : Contains lowered.members v = (relaxed.fell v lt (omega (arith, less, h.exact v lt))).0 in
+            let there : Contains lowered v = (relaxed.fell v lt (omega (arith, less, h.exact v lt))).0 in
             omega (arith, less, taken.lowered v (omega (arith, lt, a.size)) there)
         | inr same ↦ elim (cases_eq (get_or values' v 0) (get_or values v 0)) [
           | inl e ↦ omega (arith, same, e, falls v lt)
@@ -133,7 +130,7 @@ module _ (g : RawGraph) (lawful : IsLawful g) (sources : List ℕ) (sources_in :
         ]
       ] where
         stays : (v : ℕ) → v < vertices g → get_or values v 0 ≤ word_of seat' v → get_or values' v 0 ≡ get_or values v 0
-        stays v lt same = elim (member_cases lowered.members v) [
+        stays v lt same = elim (member_cases lowered v) [
           | inl there ↦ omega (arith, same, falls v lt, taken.lowered v (omega (arith, lt, a.size)) there)
           | inr other ↦ taken.kept v other
         ]
@@ -222,9 +219,8 @@ module _ (g : RawGraph) (lawful : IsLawful g) (sources : List ℕ) (sources_in :
           let less : placed (emptied s.places b) < placed s.places = placed_emptied s.places b in_bucket drawn.first.held in
           omega (arith, placed_moved mid.places moves moves_in, moves_few mid delta values' fell, taken.less, less, ap placed mid_places)
 
-      pub next : (by : Direction) (stamp_seat' : Seat) → HasStamped by (length mid.draws) stamp_seat stamp_seat' →
-          IsSearching g sources delta table stamp_table home stamp_home values' seat' stamp_seat' (record mid { places = set_places mid.places moves })
-      next by stamp_seat' stamped = record {
+      pub next : IsSearching g sources delta table home values' seat' (record mid { places = set_places mid.places moves })
+      next = record {
         advancing = subst (λ (l : List Draw). IsAdvancing g sources delta values' (set_places mid.places moves) l) draws_are next_advancing;
         order = mid_order;
         exact = exact';
@@ -234,14 +230,12 @@ module _ (g : RawGraph) (lawful : IsLawful g) (sources : List ℕ) (sources_in :
         words = h.words;
         alone = relaxed.alone;
         offers = relaxed.offers h.offers;
-        stamps = stamps_later (vertices g) stamp_table (length mid.draws) (length mid.draws + 1) by stamp_seat stamp_seat' (omega arith) stamps stamped;
-        stamp_home_is = ap (λ (x : Seat). x.home) stamped.seat_is ∙ h.stamp_home_is;
       }
 
 -- where no vertex has a place, the numbers are the distances
-pub none_left : (g : RawGraph) → IsLawful g → (sources : List ℕ) → All (λ s. s < vertices g) sources → (delta : ℕ) (table stamp_table : List ℕ) (home stamp_home : Home)
-    (values : List ℕ) (seat stamp_seat : Seat) (s : State) → IsSearching g sources delta table stamp_table home stamp_home values seat stamp_seat s → AllNone s.places → values ≡ distance_list g sources
-none_left g lawful sources sources_in delta table stamp_table home stamp_home values seat stamp_seat s h none =
+pub none_left : (g : RawGraph) → IsLawful g → (sources : List ℕ) → All (λ s. s < vertices g) sources → (delta : ℕ) (table : List ℕ) (home : Home)
+    (values : List ℕ) (seat : Seat) (s : State) → IsSearching g sources delta table home values seat s → AllNone s.places → values ≡ distance_list g sources
+none_left g lawful sources sources_in delta table home values seat s h none =
     ended g lawful sources sources_in delta values s.places s.draws h.advancing (λ v lt. none v 0 (omega (arith, lt, h.advancing.places_size)))
 
 -- ---- the same for the values that a loop has
@@ -258,61 +252,42 @@ ended_at P s mid o is h p =
     let e : AllNone s.places × (mid ≡ s) = subst (λ x. MatchOption x (AllNone s.places × (mid ≡ s)) (λ d. IsDrawn s d.0 d.1.items mid)) is h in
     (subst P (sym e.1) p, subst (λ (t : State). AllNone t.places) (sym e.1) e.0)
 
-module _ (g : RawGraph) (lawful : IsLawful g) (sources : List ℕ) (sources_in : All (λ s. s < vertices g) sources) (delta : ℕ) (some_delta : 1 ≤ delta) (table stamp_table : List ℕ) (home stamp_home : Home)
-    (values : List ℕ) (seat stamp_seat : Seat) (s : State) (h : IsSearching g sources delta table stamp_table home stamp_home values seat stamp_seat s) (b : ℕ) (ids : List ℕ) (mid : State) (drawn : IsDrawn s b ids mid) where
-  pub within_n : (n : ℕ) → n ≡ vertices g → All (λ v. v < n) ids
-  within_n n is = subst (λ m. All (λ v. v < m) ids) (sym is) (within g lawful sources sources_in delta some_delta table stamp_table home stamp_home values seat stamp_seat s h b ids mid drawn)
-
+module _ (g : RawGraph) (lawful : IsLawful g) (sources : List ℕ) (sources_in : All (λ s. s < vertices g) sources) (delta : ℕ) (some_delta : 1 ≤ delta) (table : List ℕ) (home : Home)
+    (values : List ℕ) (seat : Seat) (s : State) (h : IsSearching g sources delta table home values seat s) (b : ℕ) (ids : List ℕ) (mid : State) (drawn : IsDrawn s b ids mid) where
   -- the vertices that were drawn, as a list that is lent
-  module _ (lent : List ℕ) (lent_is : lent ≡ ids) where
-    pub lent_in : All (λ u. u < vertices g) lent
-    lent_in = subst (All (λ u. u < vertices g)) (sym lent_is) (within_n (vertices g) refl)
+  module _ (from : List ℕ) (from_is : from ≡ ids) where
+    pub from_in : IsSubset (listed Push (vertices g) from)
+    from_in = subst (λ l. IsSubset (listed Push (vertices g) l)) (sym from_is) (is_subset g lawful sources sources_in delta some_delta table home values seat s h b ids mid drawn)
 
-    pub lent_few : length lent ≤ 16777216
-    lent_few =
-        let most : length ids ≤ vertices g = length_below ids (vertices g) (increasing g lawful sources sources_in delta some_delta table stamp_table home stamp_home values seat stamp_seat s h b ids mid drawn)
-        (within_n (vertices g) refl) in
-        omega (arith, most, lawful.few_vertices, ap (λ (l : List ℕ). length l) lent_is)
+    pub from_few : length from ≤ 16777216
+    from_few = omega (arith, length_below from (vertices g) from_in.increasing from_in.within, lawful.few_vertices)
 
-  pub stamps_at : (draws : List Draw) → draws ≡ mid.draws → CanStamp (vertices g) stamp_table (length draws) stamp_seat
-  stamps_at draws is = subst (λ (l : List Draw). CanStamp (vertices g) stamp_table (length l) stamp_seat) (sym is) (stamps g lawful sources sources_in delta some_delta table stamp_table home stamp_home values seat stamp_seat s h b ids mid drawn)
+    pub ahead_at : All (λ u. b * delta ≤ get_or values u 0) from
+    ahead_at = subst (λ l. All (λ u. b * delta ≤ get_or values u 0) l) (sym from_is) (ahead g lawful sources sources_in delta some_delta table home values seat s h b ids mid drawn)
 
-  module _ (from : Subset) (n : ℕ) (from_is : from ≡ record { n = n; members = ids; dense = false }) where
-    members_are : from.members ≡ ids
-    members_are = ap (λ (x : Subset). x.members) from_is
-
-    pub ahead_at : All (λ u. b * delta ≤ get_or values u 0) from.members
-    ahead_at = subst (λ l. All (λ u. b * delta ≤ get_or values u 0) l) (sym members_are) (ahead g lawful sources sources_in delta some_delta table stamp_table home stamp_home values seat stamp_seat s h b ids mid drawn)
-
-    pub floors_at : AreAboveFloors g from.members values seat.home
-    floors_at = subst (λ l. AreAboveFloors g l values seat.home) (sym members_are) (floors g lawful sources sources_in delta some_delta table stamp_table home stamp_home values seat stamp_seat s h b ids mid drawn)
+    pub floors_at : AreAboveFloors g from values seat.home
+    floors_at = subst (λ l. AreAboveFloors g l values seat.home) (sym from_is) (floors g lawful sources sources_in delta some_delta table home values seat s h b ids mid drawn)
 
     -- what a round finds: its words, and the vertices whose numbers fell
-    module _ (seat' seat'' : Seat) (lowered : Subset) (relaxed : HasRelaxed g from.members values (b * delta) seat seat' lowered) (is_subset : IsSubset lowered) (same : seat'' ≡ seat')
-        (found values' fell sent : List ℕ) (found_is : found ≡ lowered.members) (taken : HasTaken (word_of seat') values values' found fell) (sent_is : sent ≡ fell) where
+    module _ (seat' seat'' : Seat) (lowered : List ℕ) (relaxed : HasRelaxed g from values (b * delta) seat seat' lowered) (same : seat'' ≡ seat')
+        (found values' fell sent : List ℕ) (found_is : found ≡ lowered) (taken : HasTaken (word_of seat') values values' found fell) (sent_is : sent ≡ fell) where
       relaxed' : HasRelaxed g ids values (b * delta) seat seat' lowered
-      relaxed' = subst (λ l. HasRelaxed g l values (b * delta) seat seat' lowered) members_are relaxed
+      relaxed' = subst (λ l. HasRelaxed g l values (b * delta) seat seat' lowered) from_is relaxed
 
-      taken' : HasTaken (word_of seat') values values' lowered.members sent
-      taken' = subst (λ l. HasTaken (word_of seat') values values' lowered.members l) (sym sent_is) (subst (λ l. HasTaken (word_of seat') values values' l fell) found_is taken)
-
-      pub few_at : length sent < 4294967296
-      few_at =
-          let most : length sent ≤ vertices g = length_below sent (vertices g) taken'.increasing
-          (fell_within g lawful sources sources_in delta some_delta table stamp_table home stamp_home values seat stamp_seat s h b ids mid drawn seat' lowered relaxed' is_subset values' sent taken' (vertices g) refl) in
-          omega (arith, most, lawful.few_vertices)
+      taken' : HasTaken (word_of seat') values values' lowered sent
+      taken' = subst (λ l. HasTaken (word_of seat') values values' lowered l) (sym sent_is) (subst (λ l. HasTaken (word_of seat') values values' l fell) found_is taken)
 
       pub can_go_at : All (CanGo mid delta values') sent
-      can_go_at = can_go g lawful sources sources_in delta some_delta table stamp_table home stamp_home values seat stamp_seat s h b ids mid drawn seat' lowered relaxed' is_subset values' sent taken'
+      can_go_at = can_go g lawful sources sources_in delta some_delta table home values seat s h b ids mid drawn seat' lowered relaxed' values' sent taken'
 
       module _ (moves moved : List (ℕ × ℕ)) (moves_are : moves ≡ moves_of mid delta values' sent) (moved_is : moved ≡ moves) where
         pub moves_in_at : All (λ (m : ℕ × ℕ). m.0 < length mid.places) moved
         moves_in_at = subst (All (λ (m : ℕ × ℕ). m.0 < length mid.places)) (sym (moved_is ∙ moves_are))
-            (moves_in g lawful sources sources_in delta some_delta table stamp_table home stamp_home values seat stamp_seat s h b ids mid drawn seat' lowered relaxed' is_subset values' sent taken')
+            (moves_in g lawful sources sources_in delta some_delta table home values seat s h b ids mid drawn seat' lowered relaxed' values' sent taken')
 
         pub moves_ahead_at : All (λ (m : ℕ × ℕ). m.1 ≢ NONE → IsNotBehind mid.order m.1 mid.front) moved
         moves_ahead_at = subst (All (λ (m : ℕ × ℕ). m.1 ≢ NONE → IsNotBehind mid.order m.1 mid.front)) (sym (moved_is ∙ moves_are))
-            (moves_ahead g lawful sources sources_in delta some_delta table stamp_table home stamp_home values seat stamp_seat s h b ids mid drawn seat' lowered relaxed' is_subset values' sent taken')
+            (moves_ahead g lawful sources sources_in delta some_delta table home values seat s h b ids mid drawn seat' lowered relaxed' values' sent taken')
 
         module _ (after : State) (after_is : after ≡ record mid { places = set_places mid.places moved }) where
           settled_is : after ≡ record mid { places = set_places mid.places (moves_of mid delta values' sent) }
@@ -320,15 +295,13 @@ module _ (g : RawGraph) (lawful : IsLawful g) (sources : List ℕ) (sources_in :
 
           pub fewer_at : remaining values' after.places < remaining values s.places
           fewer_at = subst (λ (t : State). remaining values' t.places < remaining values s.places) (sym settled_is)
-              (fewer g lawful sources sources_in delta some_delta table stamp_table home stamp_home values seat stamp_seat s h b ids mid drawn seat' lowered relaxed' is_subset values' sent taken')
+              (fewer g lawful sources sources_in delta some_delta table home values seat s h b ids mid drawn seat' lowered relaxed' values' sent taken')
 
-          pub next_at : (by : Direction) (stamp_seat' : Seat) (draws : List Draw) → draws ≡ mid.draws → HasStamped by (length draws) stamp_seat stamp_seat' →
-              IsSearching g sources delta table stamp_table home stamp_home values' seat'' stamp_seat' after
-          next_at by stamp_seat' draws draws_are stamped =
-              let stamped' : HasStamped by (length mid.draws) stamp_seat stamp_seat' = subst (λ (l : List Draw). HasStamped by (length l) stamp_seat stamp_seat') draws_are stamped in
-              subst (λ x. IsSearching g sources delta table stamp_table home stamp_home values' x stamp_seat' after) (sym same)
-              (subst (λ (t : State). IsSearching g sources delta table stamp_table home stamp_home values' seat' stamp_seat' t) (sym settled_is)
-              (next g lawful sources sources_in delta some_delta table stamp_table home stamp_home values seat stamp_seat s h b ids mid drawn seat' lowered relaxed' is_subset values' sent taken' by stamp_seat' stamped'))
+          pub next_at : IsSearching g sources delta table home values' seat'' after
+          next_at =
+              subst (λ x. IsSearching g sources delta table home values' x after) (sym same)
+              (subst (λ (t : State). IsSearching g sources delta table home values' seat' t) (sym settled_is)
+              (next g lawful sources sources_in delta some_delta table home values seat s h b ids mid drawn seat' lowered relaxed' values' sent taken'))
 
 -- ---- the draws
 

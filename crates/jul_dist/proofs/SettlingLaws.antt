@@ -1,13 +1,12 @@
 -- The root takes over words one after another.
 use Rattle.std.proofs.Common.{◌≡◌, ◌≢◌, ◌⊎◌, ℕ, ◌+◌, ◌<◌, ◌≤◌, List, [], ◌∷◌, ◌++◌, length, get_or, set, sum, refl, ap, sym, ◌∙◌, subst, arith, inl, inr, take, length-append}
-use Rattle.std.specs.Prelude.{Contains}
+use Rattle.std.specs.Prelude.{Contains, min}
 use Rattle.std.specs.List.{All}
-use Rattle.std.specs.List.Sorted.{IsStrictlyIncreasing}
 use Rattle.std.proofs.lemmas.Bool.{cases_eq, cases_lt}
 use Rattle.std.proofs.lemmas.List.{length-set, length-take, take_more, get_or-set_same, get_or-set_other, get_or_default, get_or-take, get_or_append_left, get_or_push}
-use Rattle.std.proofs.lemmas.List.Kept.{AllPairs-from_increasing}
 use Rattle.std.proofs.lemmas.List.Sums.{sum_by-set}
 use Rattle.std.proofs.lemmas.List.Elements.{Contains-append_left, Contains-push, Contains-push_cases, Contains-get_or}
+use Rattle.jul_base.proofs.SetLaws.{member_cases}
 use Rattle.jul_words.specs.Seats.{Seat, IsAlone}
 use Rattle.jul_words.specs.Least.{word_of}
 use Rattle.jul_dist.specs.Moving.{HasTaken}
@@ -19,38 +18,18 @@ none_taken loaded values = record {
   lowered = λ v lt (k, k_lt, is). absurd (omega (arith, k_lt));
   kept = λ v other. refl;
   fell_are = λ v. ((λ (k, k_lt, is). absurd (omega (arith, k_lt))), (λ (lt, less). absurd (omega (arith, less))));
-  increasing = λ k lt. absurd (omega (arith, lt));
   less = omega arith;
 }
 
--- a vertex that stands before a place of an increasing list is less than the one there
-before_less : (ids : List ℕ) (i v : ℕ) → IsStrictlyIncreasing ids → i < length ids → Contains (take i ids) v → v < get_or ids i 0
-before_less ids i v up lt (k, k_lt, k_is) =
-    let k_in : k < i = omega (arith, k_lt, length-take i ids) in
-    let same : get_or ids k 0 ≡ v = get_or_default ids k 0 v (omega arith) ∙ sym (get_or-take i ids k v k_in) ∙ k_is in
-    omega (arith, same, AllPairs-from_increasing ids up k i 0 k_in lt)
-
--- a greater number behind an increasing list
-increasing_push : (xs : List ℕ) (x : ℕ) → IsStrictlyIncreasing xs → ((v : ℕ) → Contains xs v → v < x) → IsStrictlyIncreasing (xs ++ x ∷ [])
-increasing_push xs x up less k lt = elim (cases_lt (k + 1) (length xs)) [
-  | inl before ↦
-      omega (arith, up k before, get_or_append_left xs (x ∷ []) 0 k (omega (arith, before)), get_or_append_left xs (x ∷ []) 0 (k + 1) before)
-  | inr last ↦
-      let at : length xs ≡ k + 1 = omega (arith, last, lt, length-append xs (x ∷ [])) in
-      let here : get_or (xs ++ x ∷ []) (k + 1) 0 ≡ x = get_or_push xs x 0 (k + 1) at in
-      omega (arith, here, get_or_append_left xs (x ∷ []) 0 k (omega (arith, at)), less (get_or xs k 0) (Contains-get_or xs k 0 (omega (arith, at))))
-]
-
-module _ (loaded : ℕ → ℕ) (old values ids : List ℕ) (i : ℕ) (fell : List ℕ) (up : IsStrictlyIncreasing ids) (lt : i < length ids) (id word : ℕ) (is : id ≡ get_or ids i 0) (id_in : id < length old) (word_is : word ≡ loaded id)
+module _ (loaded : ℕ → ℕ) (old values ids : List ℕ) (i : ℕ) (fell : List ℕ) (lt : i < length ids) (id word : ℕ) (is : id ≡ get_or ids i 0) (id_in : id < length old) (word_is : word ≡ loaded id)
     (h : HasTaken loaded old values (take i ids) fell) where
-  less_id : (v : ℕ) → Contains (take i ids) v → v < id
-  less_id v there = omega (arith, is, before_less ids i v up lt there)
+  -- a number that is above its word wasn't met before
+  fresh : word < get_or values id 0 → Contains (take i ids) id → ⊥
+  fresh lower there = absurd (omega (arith, lower, word_is, h.lowered id id_in there))
 
-  fresh : Contains (take i ids) id → ⊥
-  fresh there = absurd (omega (arith, less_id id there))
-
-  as_before : get_or values id 0 ≡ get_or old id 0
-  as_before = h.kept id fresh
+  -- and it is as at first
+  as_before : word < get_or values id 0 → get_or values id 0 ≡ get_or old id 0
+  as_before lower = h.kept id (fresh lower)
 
   taken : take (i + 1) ids ≡ take i ids ++ id ∷ []
   taken = take_more ids i 0 lt ∙ ap (λ x. take i ids ++ x ∷ []) (sym is)
@@ -64,30 +43,23 @@ module _ (loaded : ℕ → ℕ) (old values ids : List ℕ) (i : ℕ) (fell : Li
   id_in_now : Contains (take (i + 1) ids) id
   id_in_now = subst (λ l. Contains l id) (sym taken) (Contains-push (take i ids) id)
 
-  -- a vertex whose number fell is one of those before
-  fell_before : (v : ℕ) → Contains fell v → v < id
-  fell_before v there =
-      let (v_in, less) = (h.fell_are v).0 there in
-      elim (cases_lt v id) [
-        | inl before ↦ before
-        | inr past ↦ absurd (omega (arith, less, h.kept v (λ t. absurd (omega (arith, past, less_id v t)))))
-      ]
-
   -- the word isn't below the number: all stays
   pub taken_same : get_or values id 0 ≤ word → HasTaken loaded old values (take (i + 1) ids) fell
   taken_same le = record {
     size = h.size;
     lowered = λ v v_in there. elim (now_in v there) [
       | inl before ↦ h.lowered v v_in before
-      | inr e ↦
-          let at : get_or values v 0 ≡ get_or old v 0 = subst (λ x. get_or values x 0 ≡ get_or old x 0) (sym e) as_before in
-          omega (arith, at, le, as_before, word_is, ap loaded e, ap (λ x. get_or old x 0) e)
+      | inr e ↦ subst (λ x. get_or values x 0 ≡ min (loaded x) (get_or old x 0)) (sym e) same_here
     ];
     kept = λ v other. h.kept v (λ there. other (was_in v there));
     fell_are = h.fell_are;
-    increasing = h.increasing;
     less = h.less;
-  }
+  } where
+    same_here : get_or values id 0 ≡ min (loaded id) (get_or old id 0)
+    same_here = elim (member_cases (take i ids) id) [
+      | inl before ↦ h.lowered id id_in before
+      | inr other ↦ omega (arith, le, word_is, h.kept id other)
+    ]
 
   -- the word is below it: the number falls
   module _ (lower : word < get_or values id 0) where
@@ -107,7 +79,7 @@ module _ (loaded : ℕ → ℕ) (old values ids : List ℕ) (i : ℕ) (fell : Li
     taken_lower = record {
       size = length-set values id word ∙ h.size;
       lowered = λ v v_in there. elim (cases_eq v id) [
-        | inl e ↦ omega (arith, ap (λ x. get_or New x 0) e, here, lower, as_before, word_is, ap loaded e, ap (λ x. get_or old x 0) e)
+        | inl e ↦ omega (arith, ap (λ x. get_or New x 0) e, here, lower, as_before lower, word_is, ap loaded e, ap (λ x. get_or old x 0) e)
         | inr ne ↦ elim (now_in v there) [
           | inl before ↦ there_same v ne ∙ h.lowered v v_in before
           | inr e ↦ absurd (ne e)
@@ -119,29 +91,28 @@ module _ (loaded : ℕ → ℕ) (old values ids : List ℕ) (i : ℕ) (fell : Li
       fell_are = λ v. (
         (λ there. elim (Contains-push_cases fell id v there) [
           | inl before ↦
-              let ne : v ≢ id = λ e. absurd (omega (arith, e, fell_before v before)) in
               let (v_in, less) = (h.fell_are v).0 before in
+              let ne : v ≢ id = λ e. absurd (omega (arith, less, as_before lower, ap (λ x. get_or values x 0) e, ap (λ x. get_or old x 0) e)) in
               (v_in, omega (arith, less, there_same v ne))
-          | inr e ↦ (omega (arith, e, id_in), omega (arith, ap (λ x. get_or New x 0) e, here, lower, as_before, ap (λ x. get_or old x 0) e))
+          | inr e ↦ (omega (arith, e, id_in), omega (arith, ap (λ x. get_or New x 0) e, here, lower, as_before lower, ap (λ x. get_or old x 0) e))
         ]),
         (λ (v_in, less). elim (cases_eq v id) [
           | inl e ↦ subst (Contains (fell ++ id ∷ [])) (sym e) (Contains-push fell id)
           | inr ne ↦ Contains-append_left fell (id ∷ []) v ((h.fell_are v).1 (v_in, omega (arith, less, there_same v ne)))
         ]),
       );
-      increasing = increasing_push fell id h.increasing fell_before;
       less =
           let sums : sum New + get_or values id 0 ≡ sum values + word = sum_by-set (λ x. x) values id word 0 in_values in
           omega (arith, sums, lower, h.less, length-append fell (id ∷ []));
     }
 
 -- one turn of the loop, by what it changed
-module _ (loaded : ℕ → ℕ) (old values ids : List ℕ) (i : ℕ) (fell : List ℕ) (up : IsStrictlyIncreasing ids) (lt : i < length ids) (within : All (λ v. v < length old) ids) (word : ℕ) (word_is : word ≡ loaded (get_or ids i 0)) (h : HasTaken loaded old values (take i ids) fell) where
+module _ (loaded : ℕ → ℕ) (old values ids : List ℕ) (i : ℕ) (fell : List ℕ) (lt : i < length ids) (within : All (λ v. v < length old) ids) (word : ℕ) (word_is : word ≡ loaded (get_or ids i 0)) (h : HasTaken loaded old values (take i ids) fell) where
   pub turn_lower : (values' fell' : List ℕ) → word < get_or values (get_or ids i 0) 0 → values' ≡ set values (get_or ids i 0) word →
       fell' ≡ fell ++ get_or ids i 0 ∷ [] → HasTaken loaded old values' (take (i + 1) ids) fell'
   turn_lower values' fell' lower vs fs =
       let new : HasTaken loaded old (set values (get_or ids i 0) word) (take (i + 1) ids) (fell ++ get_or ids i 0 ∷ []) =
-      taken_lower loaded old values ids i fell up lt (get_or ids i 0) word refl (within i 0 lt) word_is h lower in
+      taken_lower loaded old values ids i fell lt (get_or ids i 0) word refl (within i 0 lt) word_is h lower in
       subst (λ vs'. HasTaken loaded old vs' (take (i + 1) ids) fell') (sym vs)
       (subst (λ fs'. HasTaken loaded old (set values (get_or ids i 0) word) (take (i + 1) ids) fs') (sym fs) new)
 
@@ -149,7 +120,7 @@ module _ (loaded : ℕ → ℕ) (old values ids : List ℕ) (i : ℕ) (fell : Li
   turn_same values' fell' le vs fs =
       subst (λ vs'. HasTaken loaded old vs' (take (i + 1) ids) fell') (sym vs)
       (subst (λ fs'. HasTaken loaded old values (take (i + 1) ids) fs') (sym fs)
-      (taken_same loaded old values ids i fell up lt (get_or ids i 0) word refl (within i 0 lt) word_is h le))
+      (taken_same loaded old values ids i fell lt (get_or ids i 0) word refl (within i 0 lt) word_is h le))
 
 -- a load by the root alone is its word, and the root is as it was
 pub load_is : (seat first : Seat) (v n : ℕ) → seat ≡ first → IsAlone first → (IsAlone seat → n ≡ word_of seat v) → n ≡ word_of first v

@@ -4,7 +4,7 @@ use Rattle.std.specs.Prelude.{Contains}
 use Rattle.std.specs.List.{All}
 use Rattle.std.proofs.lemmas.Bool.{cases_eq}
 use Rattle.std.proofs.lemmas.List.{length-replicate, length-set, take_more, take_all, get_or-replicate, get_or-set_same, get_or-set_other}
-use Rattle.std.proofs.lemmas.List.Elements.{All-nil, All-contains, Contains-append_left, Contains-push, Contains-push_cases}
+use Rattle.std.proofs.lemmas.List.Elements.{All-nil, All-contains, Contains-append_left, Contains-push, Contains-push_cases, All-weaker}
 use Rattle.jul_base.specs.declared.graphs.RawGraph.{RawGraph}
 use Rattle.jul_base.specs.declared.limits.TheConstants.{NONE}
 use Rattle.jul_base.specs.Graph.{vertices, IsLawful}
@@ -93,9 +93,9 @@ module _ (g : RawGraph) (lawful : IsLawful g) (sources : List ℕ) (sources_in :
     in_range : (s : ℕ) → Contains sources s → s < vertices g
     in_range s there = All-contains (λ s. s < vertices g) sources s sources_in there
 
-  pub begun : (table stamp_table values : List ℕ) (seat stamp_seat : Seat) (s : State) (home : Home) → s.order ≡ Increasing → values ≡ First → home.table ≡ table → home.starts ≡ First → home.floors ≡ distance_list g sources → seat ≡ rooted home →
-      CanStamp (vertices g) stamp_table 1 stamp_seat → s.places ≡ First → s.draws ≡ [] → IsSearching g sources delta table stamp_table seat.home stamp_seat.home values seat stamp_seat s
-  begun table stamp_table values seat stamp_seat s home order first table_is starts floors root stamps places draws =
+  pub begun : (table values : List ℕ) (seat : Seat) (s : State) (home : Home) → s.order ≡ Increasing → values ≡ First → home.table ≡ table → home.starts ≡ First → home.floors ≡ distance_list g sources → seat ≡ rooted home →
+      s.places ≡ First → s.draws ≡ [] → IsSearching g sources delta table seat.home values seat s
+  begun table values seat s home order first table_is starts floors root places draws =
       let home_is : seat.home ≡ home = ap (λ (x : Seat). x.home) root in
       record {
         advancing = subst (λ l. IsAdvancing g sources delta values l s.draws) (sym places) (subst (λ (l : List Draw). IsAdvancing g sources delta values First l) (sym draws)
@@ -108,24 +108,22 @@ module _ (g : RawGraph) (lawful : IsLawful g) (sources : List ℕ) (sources_in :
         words = ap (λ (x : Home). length x.starts) home_is ∙ ap (λ (l : List ℕ). length l) starts ∙ length-first (vertices g) sources;
         alone = (ap (λ (x : Seat). x.root) root, ap (λ (x : Seat). x.out) root);
         offers = subst AreSums (sym (ap (λ (x : Seat). x.log) root)) (All-nil (λ (e : Entry). e.number ≤ MAX_SUM));
-        stamps = subst (λ (l : List Draw). CanStamp (vertices g) stamp_table (length l + 1) stamp_seat) (sym draws) stamps;
-        stamp_home_is = refl;
       }
 
   -- ---- its end
-  pub found : (table stamp_table : List ℕ) (home stamp_home : Home) (values dist : List ℕ) (seat stamp_seat : Seat) (s : State) → IsSearching g sources delta table stamp_table home stamp_home values seat stamp_seat s → AllNone s.places → dist ≡ values →
+  pub found : (table : List ℕ) (home : Home) (values dist : List ℕ) (seat : Seat) (s : State) → IsSearching g sources delta table home values seat s → AllNone s.places → dist ≡ values →
       AreDistances g sources dist
-  found table stamp_table home stamp_home values dist seat stamp_seat s h none is =
-      subst (AreDistances g sources) (sym (is ∙ none_left g lawful sources sources_in delta table stamp_table home stamp_home values seat stamp_seat s h none)) (distance_list-is g lawful sources sources_in)
+  found table home values dist seat s h none is =
+      subst (AreDistances g sources) (sym (is ∙ none_left g lawful sources sources_in delta table home values seat s h none)) (distance_list-is g lawful sources sources_in)
 
 pub started_whole : (n : ℕ) (sources values : List ℕ) (i : ℕ) → length sources ≤ i → AreStarted n (take i sources) values → values ≡ first_numbers n sources
 started_whole n sources values i past h = started_are_first n (take i sources) values h ∙ ap (first_numbers n) (take_all i sources past)
 
 -- each vertex that has a distance was last drawn from its bucket
-pub found_drawn : (g : RawGraph) (sources : List ℕ) (delta : ℕ) (table stamp_table : List ℕ) (home stamp_home : Home) (values dist : List ℕ) (seat stamp_seat : Seat) (s : State) →
-    IsSearching g sources delta table stamp_table home stamp_home values seat stamp_seat s → AllNone s.places → dist ≡ values →
+pub found_drawn : (g : RawGraph) (sources : List ℕ) (delta : ℕ) (table : List ℕ) (home : Home) (values dist : List ℕ) (seat : Seat) (s : State) →
+    IsSearching g sources delta table home values seat s → AllNone s.places → dist ≡ values →
     (v : ℕ) → v < vertices g → get_or dist v 0 ≢ NONE → IsLastDraw s.draws v (get_or dist v 0 / delta)
-found_drawn g sources delta table stamp_table home stamp_home values dist seat stamp_seat s h none is =
+found_drawn g sources delta table home values dist seat s h none is =
     subst (λ l. (v : ℕ) → v < vertices g → get_or l v 0 ≢ NONE → IsLastDraw s.draws v (get_or l v 0 / delta)) (sym is)
     (λ v lt some. h.advancing.drawn v lt (none v 0 (omega (arith, lt, h.advancing.places_size))) some)
 
@@ -144,12 +142,12 @@ first_above g lawful sources sources_in n start is n_is =
       below = λ v lt. omega (arith, first_floors g lawful sources sources_in v (omega (arith, lt, size)), ap (λ l. get_or l v 0) first);
     }
 
--- the root of a new table of a word for each vertex may stamp
-pub may_stamp : (n count : ℕ) (table : List ℕ) (s : Seat) → count ≡ n → s ≡ rooted (zeros table count) → CanStamp n table 1 s
-may_stamp n count table s is root = record {
-  of_table = ap (λ (x : Seat). x.home.table) root;
-  words = ap (λ (x : Seat). length x.home.starts) root ∙ length-replicate {A = ℕ} count 0 ∙ is;
-  alone = (ap (λ (x : Seat). x.root) root, ap (λ (x : Seat). x.out) root);
-  some = omega arith;
-  above = subst (All (λ (e : Entry). e.number < 1)) (sym (ap (λ (x : Seat). x.log) root)) (All-nil (λ (e : Entry). e.number < 1));
+-- a table that may be stamped with the first round may be stamped with any
+pub stamps_any : (n : ℕ) (table : List ℕ) (seat : Seat) (draws round : ℕ) → CanStamp n table 1 seat → draws < round → CanStamp n table round seat
+stamps_any n table seat draws round h later = record {
+  of_table = h.of_table;
+  words = h.words;
+  alone = h.alone;
+  some = omega (arith, later);
+  above = All-weaker (λ (e : Entry). e.number < 1) (λ (e : Entry). e.number < round) (λ e lt. omega (arith, lt, later)) seat.log h.above;
 }

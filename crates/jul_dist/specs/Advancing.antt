@@ -7,7 +7,6 @@ use Rattle.jul_base.specs.DistanceList.{distance_list}
 use Rattle.jul_dist.specs.declared.limits.TheConstants.{MAX_SUM}
 use Rattle.jul_base.specs.Logs.{Home}
 use Rattle.jul_words.specs.Seats.{Seat, IsSeatOf, IsAlone}
-use Rattle.jul_edge.specs.EdgeMaps.{CanStamp}
 use Rattle.jul_bucket.specs.declared.orders.Order.TheVariants.{Increasing}
 use Rattle.jul_bucket.specs.declared.draws.Draw.{Draw}
 use Rattle.jul_bucket.specs.States.{State}
@@ -29,9 +28,9 @@ pub record IsAdvancing (g : RawGraph) (sources : List ℕ) (delta : ℕ) (values
       slice_index values (target g p) ≤ offer values u (weight g p)
   pub drawn : (v : ℕ) → v < vertices g → slice_index places v ≡ NONE → slice_index values v ≢ NONE → IsLastDraw draws v (slice_index values v / delta)
 
--- The same with the words, the stamps and the buckets: each word is the number of its vertex by the root's log alone, no
+-- The same with the words and the buckets: each word is the number of its vertex by the root's log alone, no
 -- word falls below its distance, and nothing above MAX_SUM was offered
-pub record IsSearching (g : RawGraph) (sources : List ℕ) (delta : ℕ) (table stamp_table : List ℕ) (home stamp_home : Home) (values : List ℕ) (seat stamp_seat : Seat) (s : State) : Type 0 where
+pub record IsSearching (g : RawGraph) (sources : List ℕ) (delta : ℕ) (table : List ℕ) (home : Home) (values : List ℕ) (seat : Seat) (s : State) : Type 0 where
   pub advancing : IsAdvancing g sources delta values s.places s.draws
   pub order : s.order ≡ Increasing
   pub exact : (v : ℕ) → v < vertices g → word_of seat v ≡ slice_index values v
@@ -41,5 +40,3 @@ pub record IsSearching (g : RawGraph) (sources : List ℕ) (delta : ℕ) (table 
   pub words : length home.starts ≡ vertices g
   pub alone : IsAlone seat
   pub offers : AreSums seat.log
-  pub stamps : CanStamp (vertices g) stamp_table (length s.draws + 1) stamp_seat
-  pub stamp_home_is : stamp_seat.home ≡ stamp_home

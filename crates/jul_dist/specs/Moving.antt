@@ -1,7 +1,6 @@
 -- What the root finds in the words after a round, and where the vertices go whose numbers fell.
 use Rattle.std.specs.Prelude.{◌≡◌, ℕ, ◌+◌, ◌*◌, ◌/◌, ◌<◌, ◌≤◌, ◌==◌, ◌↔◌, not, min, List, [], ◌∷◌, length, sum, count_by, Contains, slice_index}
 use Rattle.std.specs.List.{flat_map}
-use Rattle.std.specs.List.Sorted.{IsStrictlyIncreasing}
 use Rattle.jul_base.specs.declared.limits.TheConstants.{NONE}
 use Rattle.jul_bucket.specs.declared.draws.Dest.{Dest}
 use Rattle.jul_bucket.specs.declared.draws.Dest.TheVariants.{Null, Open, Overflow}
@@ -17,13 +16,12 @@ abbrev pub remaining : List ℕ → List ℕ → ℕ
 remaining values places = 2 * sum values + placed places
 
 -- The numbers of these vertices are those that were loaded where they were greater, and the others are as before. The
--- vertices whose numbers fell are listed, each once
+-- vertices whose numbers fell are listed, no more often than the sum has fallen
 pub record HasTaken (loaded : ℕ → ℕ) (old new ids fell : List ℕ) : Type 0 where
   pub size : length new ≡ length old
   pub lowered : (v : ℕ) → v < length old → Contains ids v → slice_index new v ≡ min (loaded v) (slice_index old v)
   pub kept : (v : ℕ) → (Contains ids v → ⊥) → slice_index new v ≡ slice_index old v
   pub fell_are : (v : ℕ) → Contains fell v ↔ (v < length old) × (slice_index new v < slice_index old v)
-  pub increasing : IsStrictlyIncreasing fell
   pub less : sum new + length fell ≤ sum old
 
 -- the bucket of a vertex's number

@@ -1,12 +1,11 @@
 -- One round: what is offered to words, and what is left of them.
-use Rattle.std.specs.Prelude.{◌≡◌, ℕ, ◌+◌, ◌<◌, ◌≤◌, List, [], ◌∷◌, Bool, false, length, slice_index, All, Contains}
+use Rattle.std.specs.Prelude.{◌≡◌, ℕ, ◌+◌, ◌<◌, ◌≤◌, List, [], ◌∷◌, Bool, true, false, nat_lt, if◌then◌else◌, length, slice_index, All, Contains}
 use Rattle.jul_base.specs.declared.graphs.RawGraph.{RawGraph}
 use Rattle.jul_base.specs.Graph.{vertices, target, weight, IsPlaceOf}
 use Rattle.jul_base.specs.Logs.{Log, Entry, Home, LOWER}
 use Rattle.jul_words.specs.Weights.{counted}
 use Rattle.jul_words.specs.Seats.{Seat, IsAlone, floor_of, entry}
 use Rattle.jul_words.specs.Least.{word_of, IsSettled}
-use Rattle.jul_subset.specs.Subsets.{Subset}
 use Rattle.jul_edge.specs.Edges.{Application}
 use Rattle.jul_dist.specs.declared.limits.TheConstants.{MAX_SUM}
 
@@ -47,15 +46,19 @@ pub record IsOffered (g : RawGraph) (members values : List ℕ) (v c : ℕ) : Ty
   pub number_is : c ≡ offer values source (weight g place)
   pub within : c ≤ MAX_SUM
 
+-- whether places that lead to v are walked: all are, or where settled vertices are skipped those to more than the least
+abbrev pub may_fall : Bool → ℕ → List ℕ → ℕ → Bool
+may_fall skips least values v = if skips then nat_lt least (slice_index values v) else true
+
 -- no number above MAX_SUM was offered
 abbrev pub AreSums : List Entry → Type 0
 AreSums log = All (λ (e : Entry). e.number ≤ MAX_SUM) log
 
 -- What a round leaves. No word rises or falls below its floor. Over each place of a member, to a target that has more than
--- the least, the target has no more than what was offered, if that was within MAX_SUM. A vertex whose word fell is in
--- the subset, and the word is what some member offered, so it isn't below the least
-pub record HasRelaxed (g : RawGraph) (members values : List ℕ) (least : ℕ) (old new : Seat) (lowered : Subset) : Type 0 where
-  pub n : lowered.n ≡ vertices g
+-- the least, the target has no more than what was offered, if that was within MAX_SUM. A vertex whose word fell is
+-- listed, and the word is what some member offered, so it isn't below the least
+pub record HasRelaxed (g : RawGraph) (members values : List ℕ) (least : ℕ) (old new : Seat) (lowered : List ℕ) : Type 0 where
+  pub within : All (λ v. v < vertices g) lowered
   pub home : new.home ≡ old.home
   pub alone : IsAlone new
   pub settled : IsSettled new.home new.log
@@ -63,6 +66,6 @@ pub record HasRelaxed (g : RawGraph) (members values : List ℕ) (least : ℕ) (
   pub floors : (v : ℕ) → v < vertices g → floor_of old.home v ≤ word_of new v
   pub reached : (u p : ℕ) → IsPlaceOf g u p → Contains members u → least < slice_index values (target g p) →
       offer values u (weight g p) ≤ MAX_SUM → word_of new (target g p) ≤ offer values u (weight g p)
-  pub fell : (v : ℕ) → v < vertices g → word_of new v < word_of old v → Contains lowered.members v × IsOffered g members values v (word_of new v)
+  pub fell : (v : ℕ) → v < vertices g → word_of new v < word_of old v → Contains lowered v × IsOffered g members values v (word_of new v)
   pub ahead : (v : ℕ) → v < vertices g → word_of new v < word_of old v → least ≤ word_of new v
   pub offers : AreSums old.log → AreSums new.log

@@ -41,7 +41,7 @@ pub struct DistOut {
 ///
 /// `in_rows` is the flip of `rows`, the sources are vertices, and `delta` is at least 1. The words start at 0 for each source and at `NONE` elsewhere, and so do the places of the buckets, which are increasing
 /// and were never drawn from. Nothing was logged in either table. At the end the words are the distances, no vertex is in
-/// a bucket, and the draws show from which bucket each reached vertex came last.
+/// a bucket, and the draws show from which bucket each reached vertex came last. No vertex is stamped.
 ///
 /// Memory that runs out is the only refusal. Then the seats are gone, and tables and buckets aren't used again.
 pub fn distances<R: Threads + Sync, G: Gate>(
@@ -83,7 +83,7 @@ pub fn distances<R: Threads + Sync, G: Gate>(
     ensures none_left { IfOk result (λ _. AllNone buckets.new.places) }
 {
     let mut values = first_values(alloc, rows.n(), sources)?;
-    let seats = search(
+    let seat = search(
         rt,
         alloc,
         team,
@@ -93,8 +93,6 @@ pub fn distances<R: Threads + Sync, G: Gate>(
         delta,
         words,
         seat,
-        stamps,
-        stamp_seat,
         values.as_mut_slice(),
         buckets,
     )?;
@@ -102,8 +100,8 @@ pub fn distances<R: Threads + Sync, G: Gate>(
     prove!(buckets.front() < NONE);
     Ok(DistOut {
         dist: Column::from_vec(values),
-        seat: seats.seat,
-        stamp_seat: seats.stamp_seat,
+        seat,
+        stamp_seat,
     })
 }
 
@@ -131,7 +129,6 @@ pub fn least_distances<R: Threads + Sync, G: Gate>(
     let start = first_values(alloc, rows.n(), sources)?;
     let floors = DistanceFloors { rows, sources };
     let (words, seat) = MinWords::open(alloc, start.as_slice(), &floors)?;
-    let (stamps, stamp_seat) = StampWords::open(alloc, rows.n())?;
     let mut buckets = Buckets::make(alloc, Order::Increasing, open_count, start.as_slice())?;
     let mut values = start;
     search(
@@ -144,8 +141,6 @@ pub fn least_distances<R: Threads + Sync, G: Gate>(
         delta,
         &words,
         seat,
-        &stamps,
-        stamp_seat,
         values.as_mut_slice(),
         &mut buckets,
     )?;

@@ -1,6 +1,6 @@
 //! What a round does at one edge.
-ghost use Rattle.std.specs.Prelude.{ℕ, ◌<◌, length, nat_lt, slice_index};
-ghost use Rattle.jul_dist.specs.Relaxing.{CanRelax, Relaxes};
+ghost use Rattle.std.specs.Prelude.{◌<◌, length};
+ghost use Rattle.jul_dist.specs.Relaxing.{CanRelax, Relaxes, may_fall};
 
 use crate::limits::MAX_SUM;
 use jul_edge::{Direction, EdgeFn};
@@ -11,8 +11,10 @@ use jul_words::{MinHand, MinWords};
 pub(crate) struct Relax<'a> {
     /// The numbers of the vertices, as they were before the round.
     pub(crate) values: &'a [u64],
-    /// No member has less. Vertices with no more than this can't be lowered, so places that lead to them are left out.
+    /// No member has less. Vertices with no more than this can't be lowered.
     pub(crate) least: u64,
+    /// Whether places that lead to those are left out. A look at the number of each target pays in a pull alone.
+    pub(crate) skips: bool,
     /// The words that are lowered.
     pub(crate) words: &'a MinWords,
 }
@@ -22,7 +24,7 @@ impl<'a> EdgeFn for Relax<'a> {
 
     ghost can_want = { λ f v. v < length f.values.now };
 
-    ghost wanted = { λ f v. nat_lt f.least (slice_index f.values.now v) };
+    ghost wanted = { λ f. may_fall f.skips f.least f.values.now };
 
     ghost can_apply = { λ f a home. CanRelax f.values.now a home };
 
@@ -30,7 +32,7 @@ impl<'a> EdgeFn for Relax<'a> {
 
     #[inline]
     fn wants(&self, v: u32) -> bool {
-        self.least < self.values[v as usize]
+        !self.skips || self.least < self.values[v as usize]
     }
 
     #[inline]

@@ -16,6 +16,10 @@ abbrev pub is_pull : Direction → Bool
 is_pull Push = false
 is_pull Pull = true
 
+-- a list of vertices as the subset that such a walk gave
+abbrev pub listed : Direction → ℕ → List ℕ → Subset
+listed by n ids = record { n = n; members = ids; dense = is_pull by }
+
 -- the function was applied to each wanted place once and to no other, the log gained what each application added,
 -- together and in this order, and the subset has the targets that were answered true
 pub record IsMapped (by : Direction) (g : RawGraph) (members : List ℕ) (wanted : ℕ → Bool) (gives : Application → Bool → Log → Type 0) (old new : Log) (subset : Subset) : Type 0 where

@@ -70,3 +70,10 @@ pub record MayPush (can_want : ℕ → Type 0) (can_apply : Application → List
   pub words : length seat.starts ≡ vertices g
   pub want : (v : ℕ) → v < vertices g → can_want v
   pub apply : (a : Application) → IsWanted Push g members wanted a → can_apply a own
+
+-- a push without stamps may be made with a token of this home
+pub record MayNote (can_want : ℕ → Type 0) (can_apply : Application → List Home → Type 0) (g : RawGraph) (members : List ℕ) (wanted : ℕ → Bool) (home : List Home) : Type 0 where
+  pub lawful : IsLawful g
+  pub members_in : All (λ u. u < vertices g) members
+  pub want : (v : ℕ) → v < vertices g → can_want v
+  pub apply : (a : Application) → IsWanted Push g members wanted a → can_apply a home

@@ -26,3 +26,12 @@ pub struct PullOut<T: Drop> {
     /// The root token, with none out.
     pub token: T,
 }
+
+/// What `edge_notes_by_reach` gives.
+#[derive(Drop)]
+pub struct NotedOut<T: Drop> {
+    /// How the places were walked.
+    pub direction: Direction,
+    /// The root token, with none out.
+    pub token: T,
+}

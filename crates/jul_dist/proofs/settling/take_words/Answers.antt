@@ -10,13 +10,13 @@ loop-id-preserved c =
     elim c.if-word-values.branch [
       | then-word-values+in_ok-push w ↦ (
         c.load-word.ensures.same ∙ c.loop-id.invariant.0,
-        turn_lower (word_of c.args.seat.now) c.args.values.now c.loop-id.values c.args.ids.now c.loop-id.id-index c.loop-id.fell.items c.requires.increasing c.loop-id-test.true
+        turn_lower (word_of c.args.seat.now) c.args.values.now c.loop-id.values c.args.ids.now c.loop-id.id-index c.loop-id.fell.items c.loop-id-test.true
             c.requires.within c.load-word.result word_is c.loop-id.invariant.1 c.if-word-values.values c.if-word-values.fell.items w.if-word-values.true w.values-is
             (ap (λ v. v.items) w.fell-is ∙ w.in_ok-push.ensures.items),
       )
       | else-word-values w ↦ (
         c.load-word.ensures.same ∙ c.loop-id.invariant.0,
-        turn_same (word_of c.args.seat.now) c.args.values.now c.loop-id.values c.args.ids.now c.loop-id.id-index c.loop-id.fell.items c.requires.increasing c.loop-id-test.true
+        turn_same (word_of c.args.seat.now) c.args.values.now c.loop-id.values c.args.ids.now c.loop-id.id-index c.loop-id.fell.items c.loop-id-test.true
             c.requires.within c.load-word.result word_is c.loop-id.invariant.1 c.if-word-values.values c.if-word-values.fell.items w.if-word-values.false w.values-is
             (ap (λ v. v.items) w.fell-is),
       )
