@@ -1,16 +1,16 @@
 -- A file that comes in pieces.
-use Rattle.std.proofs.Common.{◌≡◌, ℕ, ◌+◌, ◌<◌, ◌≤◌, List, [], ◌∷◌, ◌++◌, map, ◌-◌, length, get_or, take, drop, sym, ◌∙◌, subst, ap, arith, length-append, Option, Vec, Global}
+use Rattle.std.proofs.Common.{◌≡◌, ℕ, zero, suc, true, slice_range, refl, ◌+◌, ◌<◌, ◌≤◌, List, [], ◌∷◌, ◌++◌, map, ◌-◌, length, get_or, take, drop, sym, ◌∙◌, subst, ap, arith, length-append, Option}
 use Rattle.std.specs.Prelude.{Result, Ok, Err, OnOk}
-use Rattle.std.proofs.lemmas.Grind.{flat_map-append}
 use Rattle.std.proofs.Math.Seq.{take-add}
-use Rattle.std.proofs.lemmas.List.{length-map, get_or-map, get_or_append_left, get_or-append-add, append-nil, append_assoc, take_all, take_more, take-append-drop, length-drop, length-take-le, get_or-take}
+use Rattle.std.proofs.lemmas.List.{length-map, get_or-map, get_or_append_left, get_or-append-add, append-nil, append_assoc, take_all, take-append-drop, length-drop, length-take-le, get_or-take}
 use Rattle.jul_text.specs.Tokens.{is_white}
 use Rattle.jul_text.specs.Cuts.{FollowsWhite, EndsWhite}
-use Rattle.jul_adj.specs.Marking.{joined}
 use Rattle.jul_text.specs.declared.shapes.Mark.{Mark}
-use Rattle.jul_text.specs.Tokens.{Word, tokens}
+use Rattle.jul_text.specs.Tokens.{Word, tokens, tokens_from}
 use Rattle.jul_text.specs.Scanning.{no_word, word_at}
-use Rattle.jul_text.specs.Shapes.{mark_at}
+use Rattle.jul_text.specs.Shapes.{shape, mark_at, marks_from}
+use Rattle.jul_text.specs.Numbers.{AreNumbers}
+use Rattle.jul_adj.specs.Values.{HaveValues}
 use Rattle.jul_text.specs.Feeding.{IsFed, ended_marks, last_mark, as_list, GrowAlike}
 use Rattle.jul_text.proofs.FeederLaws.{all_of}
 use Rattle.jul_adj.specs.Storing.{AreMarks}
@@ -108,21 +108,36 @@ front_ends_white b block first follows within some =
     ∙ ap is_white (get_or-append-add b (take first block) (first - 1) 0 ∙ get_or-take first block (first - 1) 0 (omega (arith, follows.some)))
     ∙ follows.white
 
--- ---- several lists of marks
+-- ---- numbers
 
-pub joined_more : (cuts : List (Vec Mark Global)) (i : ℕ) (d : Vec Mark Global) → i < length cuts → joined (take (i + 1) cuts) ≡ joined (take i cuts) ++ (get_or cuts i d).items
-joined_more cuts i d lt = ap joined (take_more cuts i d lt) ∙ flat_map-append (λ (c : Vec Mark Global). c.items) (take i cuts) (get_or cuts i d ∷ []) ∙ ap (λ xs. joined (take i cuts) ++ xs) (append-nil (get_or cuts i d).items)
+shapes_of : (base : ℕ) (ws : List Word) → map (λ (m : Mark). m.shape) (map (mark_at base) ws) ≡ map (λ (w : Word). shape w.text) ws
+shapes_of base [] = refl
+shapes_of base (w ∷ ws) = ap (λ ss. shape w.text ∷ ss) (shapes_of base ws)
 
-pub joined_all : (cuts : List (Vec Mark Global)) (i : ℕ) → joined cuts ≡ joined (take i cuts) ++ joined (drop i cuts)
-joined_all cuts i = ap joined (sym (take-append-drop i cuts)) ∙ flat_map-append (λ (c : Vec Mark Global). c.items) (take i cuts) (drop i cuts)
+-- more bytes were taken, which are numbers
+pub numbers_taken : (b cut values : List ℕ) (bound base : ℕ) (old : Reading) (new : Intake) → AreNumbers cut bound values → IsFed new.feeder (b ++ cut) → ended_marks (b ++ cut) ≡ ended_marks b ++ marks_from base cut 0 →
+    ((ws : List Word) → AreMarks ws 0 (ended_marks b) → HasRead ws (length (ended_marks b)) old) →
+    ((ws : List Word) (token : ℕ) (marks : List Mark) → HasRead ws token old → AreMarks ws token marks → HaveValues marks values → HasRead ws (token + length marks) new.reading) → HasTaken (b ++ cut) new
+numbers_taken b cut values bound base old new are fed more read next =
+    more_taken {Y = ℕ} {E = ℕ} (Ok 0) b cut old new (marks_from base cut 0) fed more read
+    (λ ws token h m. next ws token (marks_from base cut 0) h m (shapes_of base (tokens_from cut 0) ∙ sym are.shapes))
 
--- one more list
-pub cut_taken : (cuts : List (Vec Mark Global)) (i : ℕ) (d : Vec Mark Global) (ws : List Word) (token : ℕ) (old new : Reading) → i < length cuts → AreMarks ws token (joined cuts) → HasRead ws (token + length (joined (take i cuts))) old →
-    ((t : ℕ) → HasRead ws t old → AreMarks ws t (get_or cuts i d).items → HasRead ws (t + length (get_or cuts i d).items) new) → HasRead ws (token + length (joined (take (i + 1) cuts))) new
-cut_taken cuts i d ws token old new lt are h next =
-    let split : joined cuts ≡ joined (take (i + 1) cuts) ++ joined (drop (i + 1) cuts) = joined_all cuts (i + 1) in
-    let front : AreMarks ws token (joined (take i cuts) ++ (get_or cuts i d).items) =
-    subst (AreMarks ws token) (joined_more cuts i d lt) (marks_first ws token (joined (take (i + 1) cuts)) (joined (drop (i + 1) cuts)) (subst (AreMarks ws token) split are)) in
-    let size : token + length (joined (take i cuts)) + length (get_or cuts i d).items ≡ token + length (joined (take (i + 1) cuts)) =
-    omega (arith, ap length (joined_more cuts i d lt), length-append (joined (take i cuts)) (get_or cuts i d).items) in
-    subst (λ t. HasRead ws t new) size (next (token + length (joined (take i cuts))) h (marks_next ws token (joined (take i cuts)) (get_or cuts i d).items front))
+-- what was taken shows in the feeder and the reading alone
+pub kept : (b : List ℕ) (old new : Intake) → new.feeder ≡ old.feeder → new.reading ≡ old.reading → HasTaken b old → HasTaken b new
+kept b old new same same' h = record {
+  fed = subst (λ f. IsFed f b) (sym same) h.fed;
+  read = λ ws are. subst (HasRead ws (length (ended_marks b))) (sym same') (h.read ws are);
+}
+
+-- ---- cuts
+
+-- bytes up to a place that is 0 or follows a white byte
+pub front_white : (b text : List ℕ) (p : ℕ) → EndsWhite b → p ≤ length text → (0 < p → is_white (get_or text (p - 1) 0) ≡ true) → EndsWhite (b ++ take p text)
+front_white b text zero white within behind = subst EndsWhite (sym (append-nil b)) white
+front_white b text (suc p) white within behind = front_ends_white b text (suc p) (record { some = omega arith; white = behind (omega arith) }) within
+
+-- one more cut
+pub cut_taken : (b text : List ℕ) (from to : ℕ) → from ≤ to → (b ++ take from text) ++ slice_range text from to ≡ b ++ take to text
+cut_taken b text from to rising =
+    append_assoc b (take from text) (slice_range text from to)
+    ∙ ap (λ xs. b ++ xs) (sym (take-add from (to - from) text) ∙ ap (λ k. take k text) {x = from + (to - from)} {y = to} (omega arith))

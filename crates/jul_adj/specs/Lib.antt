@@ -4,9 +4,10 @@ pub mod Faults
 pub mod Reading
 pub mod Readings
 pub mod Intakes
-pub mod Marking
+pub mod Cutting
 pub mod Rules
 pub mod Storing
+pub mod Values
 pub mod Streaming
 pub mod Texts
 pub mod Spreading

@@ -6,18 +6,19 @@
 //! graph from a seed.
 #![tactic(auto)]
 
+mod cutting;
 mod drawing;
 mod faults;
 mod generating;
 mod intakes;
 mod lists;
-mod marking;
 mod reading;
 mod readings;
 mod rules;
 mod sizes;
 mod storing;
 mod streaming;
+mod values;
 mod writing;
 
 pub use faults::{Fault, FaultKind, ReadError, StreamError};

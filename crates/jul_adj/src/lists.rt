@@ -1,12 +1,14 @@
 //! The lists of a graph that is being read.
-ghost use Rattle.std.specs.Prelude.{◌≡◌, ℕ, ◌+◌, ◌<◌, ◌≤◌, ◌^◌, List, length, IfOk, IfSome, IfNone, None, Some};
+ghost use Rattle.std.specs.Prelude.{◌≡◌, ℕ, ◌+◌, ◌<◌, ◌≤◌, ◌^◌, List, length, IfOk, IfSome, IfNone, OnOk, None, Some};
 ghost use Rattle.jul_text.specs.Tokens.{Word};
 ghost use Rattle.jul_adj.specs.Faults.{kind_at};
 ghost use Rattle.jul_adj.specs.Rules.{bound_of, AreRuled};
 ghost use Rattle.jul_adj.specs.Storing.{AreMarks};
+ghost use Rattle.jul_adj.specs.Values.{AreValues};
 
 use crate::rules::Rule;
 use crate::storing::{Stored, store};
+use crate::values::append;
 use jul_text::Mark;
 use std::alloc::{AllocError, Global};
 
@@ -52,6 +54,19 @@ impl Lists {
             Rule::Count { .. } | Rule::Offset { .. } => store(part, rule, &mut self.offsets),
             Rule::Target { .. } => store(part, rule, &mut self.targets),
             Rule::Weight => store(part, rule, &mut self.weights),
+        }
+    }
+
+    /// Appends the numbers of tokens of one part of the file, which gets at most so many more.
+    pub(crate) fn append(&mut self, values: &[u32], rule: Rule, more: u64) -> Result<(), AllocError>
+        ensures { (ws : List Word) (token : ℕ) → AreValues ws token values.now
+            → IsPart ws rule token (token + length values.now) → AreLists ws token self.old
+            → OnOk result (AreLists ws (token + length values.now) self.new) }
+    {
+        match rule {
+            Rule::Count { .. } | Rule::Offset { .. } => append(values, more, &mut self.offsets),
+            Rule::Target { .. } => append(values, more, &mut self.targets),
+            Rule::Weight => append(values, more, &mut self.weights),
         }
     }
 }

@@ -1,5 +1,6 @@
 //! A graph file that is read from the marks of its tokens, some at a time.
-ghost use Rattle.std.specs.Prelude.{◌≡◌, ℕ, ◌+◌, ◌-◌, ◌<◌, ◌≤◌, ◌^◌, List, [], ◌∷◌, length, take, IfOk, IfSome, IfNone, OnOk, None, Some};
+ghost use Rattle.std.specs.Prelude.{◌≡◌, ℕ, ◌+◌, ◌-◌, ◌<◌, ◌≤◌, ◌^◌, List, [], ◌∷◌, length, take, IfOk, IfSome, IfNone, OnOk, IsTrue, false, None, Some};
+ghost use Rattle.std.specs.List.{All};
 ghost use Rattle.std.specs.Str.{bytes_eq};
 ghost use Rattle.jul_text.specs.Tokens.{Word};
 ghost use Rattle.jul_text.specs.Shapes.{shape};
@@ -8,13 +9,15 @@ ghost use Rattle.jul_adj.specs.Roles.{weighted_word, all_tokens};
 ghost use Rattle.jul_adj.specs.Rules.{bound_of, AreRuled};
 ghost use Rattle.jul_adj.specs.Reading.{read_tokens};
 ghost use Rattle.jul_adj.specs.Storing.{AreMarks};
-ghost use Rattle.jul_adj.specs.Marking.{joined};
+ghost use Rattle.jul_adj.specs.Values.{HaveValues};
+ghost use Rattle.jul_text.specs.declared.shapes.Mark.{Mark};
 
 use crate::faults::{Fault, FaultKind};
 use crate::lists::Lists;
 use crate::rules::Rule;
 use crate::sizes::Sizes;
 use crate::storing::number;
+use crate::values::admits;
 use jul_base::{Ids, MAX_M, MAX_N, RawGraph};
 use jul_text::{Mark, Shape};
 use std::alloc::{AllocError, Global};
@@ -259,15 +262,45 @@ impl Reading {
         Ok(())
     }
 
-    /// Takes the next tokens, by lists of marks, one behind the other.
-    pub(crate) fn take_all(&mut self, cuts: &[Vec<Mark>]) -> Result<(), AllocError>
-        ensures { (ws : List Word) (token : ℕ) → HasRead ws token self.old → AreMarks ws token (joined cuts.now)
-            → OnOk result (HasRead ws (token + length (joined cuts.now)) self.new) }
-    {
-        for cut in cuts {
-            self.take(cut)?;
+    /// The greatest number that the next tokens may be, where they are several that are alike. Takes no memory.
+    pub(crate) fn bound(&self) -> Option<u32> {
+        if self.token < 3 || self.fault.is_some() {
+            return None;
         }
-        Ok(())
+        match self.next_part()?.0 {
+            Rule::Count { .. } => None,
+            Rule::Offset { .. } => Some(self.sizes.places),
+            Rule::Target { .. } => self.sizes.vertices.checked_sub(1),
+            Rule::Weight => Some(u32::MAX),
+        }
+    }
+
+    /// Takes the next tokens by their values, which are at most `most`, if all are of one part of the file and meet its
+    /// rule. The answer tells whether they were taken; if it is false, nothing has changed.
+    pub(crate) fn take_values(&mut self, values: &[u32], most: u32) -> Result<bool, AllocError>
+        requires { All (λ v. v ≤ most) values.now }
+
+        ensures taken { (ws : List Word) (token : ℕ) (marks : List Mark) → HasRead ws token self.old
+            → AreMarks ws token marks → HaveValues marks values.now
+            → IfOk result (λ t. IsTrue t → HasRead ws (token + length marks) self.new) }
+        ensures refused { IfOk result (λ t. t ≡ false → self.new ≡ self.old) }
+    {
+        if self.token < 3 {
+            return Ok(false);
+        }
+        if let Some(_) = self.fault {
+            return Ok(false);
+        }
+        let Some((rule, end)) = self.next_part() else {
+            return Ok(false);
+        };
+        let more = end - self.token;
+        if more < values.len() as u64 || !admits(rule, most, values) {
+            return Ok(false);
+        }
+        self.lists.append(values, rule, more)?;
+        self.token += values.len() as u64;
+        Ok(true)
     }
 
     /// What the file says, of so many bytes, whose tokens were all taken. Takes no memory.

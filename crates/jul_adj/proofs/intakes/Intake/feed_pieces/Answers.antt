@@ -14,11 +14,11 @@ loop-at-preserved c =
     let piece : length (take (at + count - at) (drop at bytes)) ≡ count = ap (λ n. length (take n (drop at bytes))) size ∙ length-take-le count (drop at bytes) (omega (arith, length-drop at bytes, few)) in
     record {
       within = omega (arith, few);
-      count = omega (arith, c.in_ok-feed.ensures.count, c.loop-at.invariant.count, piece);
+      count = omega (arith, c.in_ok-feed_piece.ensures.count, c.loop-at.invariant.count, piece);
       taken = λ b h.
           let on : (b ++ take at bytes) ++ take (at + count - at) (drop at bytes) ≡ b ++ take (at + count) bytes =
           append_assoc b (take at bytes) (take (at + count - at) (drop at bytes)) ∙ ap (λ xs. b ++ xs) (ap (λ n. take at bytes ++ take n (drop at bytes)) size ∙ sym (take-add at count bytes)) in
-          subst (λ b. HasTaken b c.feed.new.self) on (c.in_ok-feed.ensures.taken (b ++ take at bytes) (c.loop-at.invariant.taken b h));
+          subst (λ b. HasTaken b c.feed_piece.new.self) on (c.in_ok-feed_piece.ensures.taken (b ++ take at bytes) (c.loop-at.invariant.taken b h));
     }
 
 pub returns-clause-taken : goal.returns-clause-taken
