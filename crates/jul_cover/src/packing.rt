@@ -50,6 +50,17 @@ pub(crate) fn pack_of(p: &PackedSets, s: u32) -> &[u32]
     pack
 }
 
+/// How many elements are left of a set.
+#[inline]
+pub(crate) fn size_of(p: &PackedSets, s: u32) -> usize
+    requires packed { ArePacked p.now }
+    requires in_range { s < p.now.n }
+
+    ensures { result ≡ length (pack_at p.now s) }
+{
+    p.lens[s as usize]
+}
+
 /// Packs each of these sets down to the elements that nothing covers.
 pub(crate) fn pack_each(p: &mut PackedSets, listed: &[u32], by: &[u64])
     requires packed { ArePacked p.old }
@@ -106,10 +117,8 @@ fn keep_open(elements: &mut [u32], by: &[u64]) -> usize
     let mut kept = 0;
     for i in 0..elements.len() {
         let e = elements[i];
-        if by[e as usize] == NONE {
-            elements[kept] = e;
-            kept += 1;
-        }
+        elements[kept] = e;
+        kept += usize::from(by[e as usize] == NONE);
     }
     kept
 }
