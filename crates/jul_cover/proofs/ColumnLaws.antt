@@ -1,15 +1,15 @@
 -- Columns that are written in parts.
-use Rattle.std.proofs.Common.{◌≡◌, Bool, true, false, eqb, ℕ, ◌+◌, ◌<◌, List, [], ◌∷◌, ◌++◌, length, get_or, set, take, refl, sym, ◌∙◌, ap, subst, arith, inl, inr}
+use Rattle.std.proofs.Common.{◌≡◌, Bool, false, eqb, ℕ, ◌+◌, ◌<◌, List, [], ◌∷◌, ◌++◌, length, get_or, set, take, refl, sym, ◌∙◌, ap, subst, arith, inl, inr}
 use Rattle.std.specs.List.{Contains, flat_map}
 use Rattle.std.proofs.lemmas.Bool.{cases_eq}
 use Rattle.std.proofs.lemmas.Grind.{flat_map-append}
-use Rattle.std.proofs.lemmas.List.{append-nil, take_more, length-set, get_or-set_same, get_or-set_other, get_or_default}
+use Rattle.std.proofs.lemmas.List.{append-nil, take_more, length-set, get_or-set_same, get_or-set_other}
 use Rattle.std.proofs.lemmas.List.Elements.{Contains-append_left, Contains-append_right, Contains-append_cases}
 use Rattle.jul_base.proofs.SetLaws.{member_cases, Contains-cons_cases}
 use Rattle.jul_words.specs.Seats.{Seat, IsAlone}
 use Rattle.jul_words.specs.Least.{word_of}
 use Rattle.jul_cover.specs.Columns.{AreWritten}
-use Rattle.jul_cover.specs.PackedSets.{is_open, AreOpen}
+use Rattle.jul_cover.specs.PackedSets.{AreOpen}
 use Rattle.jul_base.specs.declared.limits.TheConstants.{NONE}
 
 pub not_in_nil : (v : ℕ) → Contains [] v → ⊥

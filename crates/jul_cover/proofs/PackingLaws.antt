@@ -1,12 +1,12 @@
 -- Sets that stand one behind another, and are packed where they stand.
-use Rattle.std.proofs.Common.{Bool, true, false, ◌≡◌, ◌≢◌, ℕ, zero, suc, ◌+◌, ◌-◌, ◌<◌, ◌≤◌, List, [], ◌∷◌, ◌++◌, length, get_or, set, take, drop, refl, sym, ◌∙◌, ap, subst, arith, inl, inr}
+use Rattle.std.proofs.Common.{Bool, true, false, ◌≡◌, ◌≢◌, ℕ, ◌+◌, ◌-◌, ◌<◌, ◌≤◌, List, [], ◌∷◌, ◌++◌, length, get_or, set, take, drop, refl, sym, ◌∙◌, ap, subst, arith, inl, inr}
 use mir.Val.{bool_byte}
 use Rattle.std.specs.List.{All, filter, Contains}
 use Rattle.std.proofs.lemmas.List.Elements.{All-filter, Contains-push, Contains-push_cases, Contains-append_left}
 use Rattle.jul_base.proofs.SetLaws.{member_cases}
 use Rattle.std.proofs.lemmas.Bool.{cases_eq, cases_lt}
 use Rattle.std.proofs.lemmas.List.Filters.{FiltersInPlace, FiltersInPlace-more_set, FiltersInPlace-more_no}
-use Rattle.std.proofs.lemmas.List.{drop-drop, drop-take, drop_at, take-append-le, length-append, get_or_append_left, drop-append-le, length-drop, take_all, take_more, take-take, get_or_default, get_or-set_same, get_or-set_other, length-set, take-set-le, drop-set-lt, length-take-le}
+use Rattle.std.proofs.lemmas.List.{drop-drop, drop-take, take-append-le, length-append, get_or_append_left, drop-append-le, length-drop, take_all, take_more, take-take, get_or_default, get_or-set_same, get_or-set_other, length-set, take-set-le, drop-set-lt, length-take-le}
 use Rattle.std.proofs.Math.Seq.{get_or-append_seam, drop-append_seam}
 use Rattle.jul_base.specs.declared.limits.TheConstants.{MAX_N}
 use Rattle.jul_base.specs.Sets.{AreSets}

@@ -1,4 +1,4 @@
-use Rattle.std.proofs.Common.{ℕ, ◌<◌, ◌≤◌, ◌∙◌, get_or, refl, subst, sym, arith, length}
+use Rattle.std.proofs.Common.{ℕ, ◌<◌, ◌∙◌, get_or, refl, subst, arith, length}
 use Rattle.jul_words.specs.Least.{word_of}
 use Rattle.jul_words.specs.Seats.{Seat}
 use Rattle.jul_cover.specs.Columns.{AreWritten}
