@@ -1,5 +1,5 @@
 -- Columns that are written in parts.
-use Rattle.std.proofs.Common.{◌≡◌, ℕ, ◌+◌, ◌<◌, List, [], ◌∷◌, ◌++◌, length, get_or, set, take, refl, sym, ◌∙◌, ap, subst, arith, inl, inr}
+use Rattle.std.proofs.Common.{◌≡◌, Bool, false, eqb, ℕ, ◌+◌, ◌<◌, List, [], ◌∷◌, ◌++◌, length, get_or, set, take, refl, sym, ◌∙◌, ap, subst, arith, inl, inr}
 use Rattle.std.specs.List.{Contains, flat_map}
 use Rattle.std.proofs.lemmas.Bool.{cases_eq}
 use Rattle.std.proofs.lemmas.Grind.{flat_map-append}
@@ -9,6 +9,8 @@ use Rattle.jul_base.proofs.SetLaws.{member_cases, Contains-cons_cases}
 use Rattle.jul_words.specs.Seats.{Seat, IsAlone}
 use Rattle.jul_words.specs.Least.{word_of}
 use Rattle.jul_cover.specs.Columns.{AreWritten}
+use Rattle.jul_cover.specs.PackedSets.{AreOpen}
+use Rattle.jul_base.specs.declared.limits.TheConstants.{NONE}
 
 pub not_in_nil : (v : ℕ) → Contains [] v → ⊥
 not_in_nil v (k, lt, is) = absurd (omega (arith, lt))
@@ -65,3 +67,20 @@ written_list f part listed elements old mid new i lt same a b =
 -- what the root loads is exact
 pub load_is : (seat at : Seat) (v n : ℕ) → seat ≡ at → IsAlone at → (IsAlone seat → n ≡ word_of seat v) → n ≡ word_of at v
 load_is seat at v n same alone exact = subst (λ s. IsAlone s → n ≡ word_of s v) same exact alone
+
+-- ---- a mark for each vertex that nothing covers
+
+-- a number and its mark are written
+pub open_written : (open' : List Bool) (by : List ℕ) (e word : ℕ) → e < length by → AreOpen open' by → AreOpen (set open' e (eqb word NONE)) (set by e word)
+open_written open' by e word lt a = record {
+  size = length-set open' e (eqb word NONE) ∙ a.size ∙ sym (length-set by e word);
+  each = λ x x_lt.
+      elim (cases_eq x e) [
+        | inl same ↦
+            ap (λ k. get_or (set open' e (eqb word NONE)) k false) same ∙ get_or-set_same open' e (eqb word NONE) false (omega (arith, a.size))
+            ∙ sym (ap (λ k. eqb k NONE) (ap (λ k. get_or (set by e word) k 0) same ∙ get_or-set_same by e word 0 lt))
+        | inr apart ↦
+            get_or-set_other open' e x (eqb word NONE) false apart ∙ a.each x (omega (arith, x_lt, length-set by e word))
+            ∙ sym (ap (λ k. eqb k NONE) (get_or-set_other by e x word 0 apart))
+      ];
+}

@@ -1,7 +1,7 @@
 -- Where the rounds start, and what stands at the end.
-use Rattle.std.proofs.Common.{◌≡◌, ◌≢◌, ℕ, ◌<◌, ◌≤◌, not, List, [], length, get_or, replicate, refl, ap, sym, ◌∙◌, subst, arith, inl, inr}
-use Rattle.std.specs.List.{filter, All}
-use Rattle.std.proofs.lemmas.Bool.{cases_eq, cases_lt, cond-true, cond-false, eq-eqb, ne_eqb}
+use Rattle.std.proofs.Common.{◌≡◌, ◌≢◌, ℕ, ◌<◌, ◌≤◌, not, List, length, get_or, replicate, refl, ap, sym, ◌∙◌, subst, arith, inl, inr}
+use Rattle.std.specs.List.{filter}
+use Rattle.std.proofs.lemmas.Bool.{cases_lt, cond-true, cond-false, eq-eqb, ne_eqb}
 use Rattle.std.proofs.lemmas.List.{length-replicate, get_or-replicate, get_or_past}
 use Rattle.std.proofs.lemmas.List.Sums.{count_by-le-length}
 use Rattle.jul_base.specs.declared.limits.TheConstants.{NONE, MAX_N}
@@ -24,7 +24,7 @@ use Rattle.jul_cover.specs.Offers.{IsRootOf}
 use Rattle.jul_cover.specs.CoverBids.{IsLastBid}
 use Rattle.jul_cover.specs.CoverBounds.{IsSmallCover}
 use Rattle.jul_cover.specs.CoverDraws.{HaveDraws}
-use Rattle.jul_cover.specs.CoverMoves.{place_for, AreSizes}
+use Rattle.jul_cover.specs.CoverMoves.{AreSizes}
 use Rattle.jul_cover.specs.CoverWork.{At, IsCovering, IsStored, IsOwner, IsRoundBefore}
 use Rattle.jul_cover.proofs.CoverBidLaws.{IsLastBid-from_words}
 use Rattle.jul_cover.proofs.CoverBoundLaws.{small_cover}

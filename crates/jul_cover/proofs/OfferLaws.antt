@@ -4,7 +4,7 @@ use Rattle.std.specs.List.{Contains, All, count_by}
 use Rattle.std.proofs.lemmas.Bool.{cases_Bool, cases_lt, eqb-true, eq-eqb}
 use Rattle.std.proofs.lemmas.List.{map-append, take_more, append-nil}
 use Rattle.std.proofs.lemmas.List.Elements.{All-head, All-tail, All-push, All-contains, All-map}
-use Rattle.jul_base.specs.Logs.{Log, Entry, Home}
+use Rattle.jul_base.specs.Logs.{Log, Entry}
 use Rattle.jul_base.specs.Sets.{has}
 use Rattle.jul_base.proofs.CountLaws.{count_by-positive, none_or_one}
 use Rattle.jul_base.proofs.SetLaws.{Contains-from_has, has-from_Contains, Contains-cons_cases}

@@ -1,10 +1,12 @@
 -- Sets that stand one behind another, and are packed where they stand.
-use Rattle.std.proofs.Common.{◌≡◌, ◌≢◌, ℕ, zero, suc, ◌+◌, ◌-◌, ◌<◌, ◌≤◌, List, [], ◌∷◌, ◌++◌, length, get_or, set, take, drop, refl, sym, ◌∙◌, ap, subst, arith, inl, inr}
+use Rattle.std.proofs.Common.{Bool, true, false, ◌≡◌, ◌≢◌, ℕ, ◌+◌, ◌-◌, ◌<◌, ◌≤◌, List, [], ◌∷◌, ◌++◌, length, get_or, set, take, drop, refl, sym, ◌∙◌, ap, subst, arith, inl, inr}
+use mir.Val.{bool_byte}
 use Rattle.std.specs.List.{All, filter, Contains}
 use Rattle.std.proofs.lemmas.List.Elements.{All-filter, Contains-push, Contains-push_cases, Contains-append_left}
 use Rattle.jul_base.proofs.SetLaws.{member_cases}
 use Rattle.std.proofs.lemmas.Bool.{cases_eq, cases_lt}
-use Rattle.std.proofs.lemmas.List.{drop-drop, drop-take, drop_at, take-append-le, length-append, get_or_append_left, drop-append-le, length-drop, take_all, take_more, take-take, get_or_default, get_or-set_same, get_or-set_other, length-set}
+use Rattle.std.proofs.lemmas.List.Filters.{FiltersInPlace, FiltersInPlace-more_set, FiltersInPlace-more_no}
+use Rattle.std.proofs.lemmas.List.{drop-drop, drop-take, take-append-le, length-append, get_or_append_left, drop-append-le, length-drop, take_all, take_more, take-take, get_or_default, get_or-set_same, get_or-set_other, length-set, take-set-le, drop-set-lt, length-take-le}
 use Rattle.std.proofs.Math.Seq.{get_or-append_seam, drop-append_seam}
 use Rattle.jul_base.specs.declared.limits.TheConstants.{MAX_N}
 use Rattle.jul_base.specs.Sets.{AreSets}
@@ -250,3 +252,28 @@ packed_more by listed i old mid new lt h n well here other =
           λ same. none (subst (λ l. Contains l r) (sym more) (subst (Contains (take i listed ++ get_or listed i 0 ∷ [])) (sym same) (Contains-push (take i listed) (get_or listed i 0)))) in
           other r in_mid apart ∙ h.other r r_lt (λ before. none (subst (λ l. Contains l r) (sym more) (Contains-append_left (take i listed) (get_or listed i 0 ∷ []) r before)));
     }
+
+-- what is left of a set is as long as its length says
+pub pack_size : (p : PackedSets) (s : ℕ) → ArePacked p → s < p.n → length (pack_at p s) ≡ get_or p.lens.items s 0
+pack_size p s a lt =
+    let rest : List ℕ = drop (get_or p.starts.items s 0) p.items.items in
+    let inside : get_or p.starts.items s 0 + get_or p.lens.items s 0 ≤ length p.items.items = a.inside s lt in
+    length-take-le (get_or p.lens.items s 0) rest (omega (arith, inside, length-drop (get_or p.starts.items s 0) p.items.items))
+
+-- ---- an element that is written to the front whether it is kept or not
+
+module _ {p : ℕ → Bool} {xs ys : List ℕ} {k i x : ℕ} (h : FiltersInPlace p xs ys k i) (lt : i < length ys) (is : x ≡ get_or ys i x) where
+  filters_by : (b : Bool) → p x ≡ b → FiltersInPlace p xs (set ys k x) (k + bool_byte b) (i + 1)
+  filters_by true e = FiltersInPlace-more_set h lt e is
+  filters_by false e =
+      let more = FiltersInPlace-more_no h lt e is in
+      subst (λ j. FiltersInPlace p xs (set ys k x) j (i + 1)) (omega arith) (record {
+        front = take-set-le k ys k x (omega arith) ∙ more.front;
+        rest = drop-set-lt (i + 1) ys k x (omega (arith, h.behind)) ∙ more.rest;
+        behind = more.behind;
+        within = more.within;
+        long = length-set ys k x ∙ more.long;
+      })
+
+  pub filters_more : FiltersInPlace p xs (set ys k x) (k + bool_byte (p x)) (i + 1)
+  filters_more = filters_by (p x) refl

@@ -1,13 +1,13 @@
 -- One round over plain columns and words: what bids and owners become, who is active, who is chosen.
-use Rattle.std.proofs.Common.{◌≡◌, ◌≢◌, ◌⊎◌, ℕ, zero, suc, ◌+◌, ◌*◌, ◌^◌, ◌<◌, ◌≤◌, Bool, true, false, not, eqb, leb, cond, List, [], ◌∷◌, length, refl, sym, ap, ◌∙◌, subst, arith, inl, inr}
+use Rattle.std.proofs.Common.{◌≡◌, ◌≢◌, ◌⊎◌, ℕ, suc, ◌+◌, ◌*◌, ◌^◌, ◌<◌, ◌≤◌, Bool, true, leb, cond, List, [], ◌∷◌, length, refl, sym, ap, ◌∙◌, subst, arith, inl, inr}
 use Rattle.std.specs.List.{filter, Contains}
-use Rattle.std.proofs.lemmas.Bool.{cases_Bool, cases_eq, cases_lt, cond-true, cond-false, and_from, le-leb, leb-true}
+use Rattle.std.proofs.lemmas.Bool.{cases_eq, cases_lt, and_from, le-leb}
 use Rattle.std.proofs.lemmas.List.Sums.{count_by-le-length}
 use Rattle.std.proofs.lemmas.List.FromFn.{length-range_with_len}
 use Rattle.jul_base.specs.declared.limits.TheConstants.{NONE, MAX_N}
 use Rattle.jul_base.specs.Numbers.{below, IsLeastOrNone}
 use Rattle.jul_base.specs.Sets.{has}
-use Rattle.jul_base.specs.CoverRounds.{set_at, size, floor_log2, bucket, is_active, won, is_chosen, covered_before, chosen_in}
+use Rattle.jul_base.specs.CoverRounds.{size, floor_log2, bucket, is_active, won, is_chosen, covered_before, chosen_in}
 use Rattle.jul_base.proofs.CountLaws.{has_here, has_later}
 use Rattle.jul_base.proofs.CoverRoundLaws.{is_chosen-parts, chosen-parts}
 use Rattle.jul_base.proofs.PeelLaws.{has_kept, has_below}

@@ -2,7 +2,6 @@
 use Rattle.std.proofs.Common.{◌≡◌, ℕ, ◌*◌, ◌^◌, ◌<◌, ◌≤◌, leb, sym, ◌∙◌, arith, inl, inr}
 use Rattle.std.proofs.Math.Nat.{pow-le-pow_right}
 use Rattle.std.proofs.lemmas.Bool.{cases_lt, cond-false, ne_eqb, le-leb, leb-true, false_from_ne_true}
-use Rattle.jul_base.specs.CoverRounds.{floor_log2}
 use Rattle.jul_base.proofs.PowerLaws.{floor_log2_is, power-double}
 use Rattle.jul_cover.specs.CoverMoves.{place_for}
 

@@ -1,10 +1,10 @@
 -- A turn of the loop: what it asks for holds, and what the loop carries holds after it.
-use Rattle.std.proofs.Common.{◌≡◌, ◌≢◌, ◌⊎◌, ℕ, zero, suc, ◌+◌, ◌-◌, ◌*◌, ◌^◌, ◌<◌, ◌≤◌, Bool, true, false, not, eqb, leb, cond, List, [], ◌∷◌, ◌++◌, length, map, get_or, refl, sym, ap, ◌∙◌, subst, arith, inl, inr, Vec, Global}
+use Rattle.std.proofs.Common.{◌≡◌, ◌≢◌, ◌⊎◌, ℕ, zero, suc, ◌+◌, ◌*◌, ◌^◌, ◌<◌, ◌≤◌, Bool, true, false, not, eqb, leb, cond, List, [], ◌∷◌, ◌++◌, length, get_or, refl, sym, ap, ◌∙◌, subst, arith, inl, inr, Vec, Global}
 use Rattle.std.specs.Prelude.{MatchOption, Option, Some}
-use Rattle.std.specs.List.{filter, flat_map, sum_by, All, Contains}
+use Rattle.std.specs.List.{filter, flat_map, All, Contains}
 use Rattle.std.specs.List.Sorted.{IsStrictlyIncreasing}
-use Rattle.std.proofs.lemmas.Bool.{cases_Bool, cases_eq, cases_lt, both_ways, cond-true, cond-false, eq-eqb, ne_eqb, eqb-true, le-leb, leb-true, not_from_false, not_from_true, not-true, false_from_ne_true}
-use Rattle.std.proofs.lemmas.List.{length-map, get_or_default}
+use Rattle.std.proofs.lemmas.Bool.{cases_eq, cases_lt, both_ways, cond-true, cond-false, eq-eqb, ne_eqb, le-leb, leb-true, not_from_false, not_from_true, not-true, false_from_ne_true}
+use Rattle.std.proofs.lemmas.List.{get_or_default}
 use Rattle.std.proofs.lemmas.List.Elements.{All-contains}
 use Rattle.jul_base.specs.declared.limits.TheConstants.{NONE, MAX_N}
 use Rattle.jul_base.specs.Logs.{Home}
@@ -30,7 +30,7 @@ use Rattle.jul_bucket.specs.Places.{ids_at, emptied, set_places, AllNone, IsFirs
 use Rattle.jul_bucket.specs.States.{State, IsDrawn}
 use Rattle.jul_bucket.proofs.IdLaws.{Contains-ids_at, ids_at-Contains, IsStrictlyIncreasing-ids_at, length-emptied, emptied-here, emptied-other, length-set_places}
 use Rattle.jul_cover.specs.declared.packed_sets.PackedSets.{PackedSets}
-use Rattle.jul_cover.specs.PackedSets.{pack_at, is_open, ArePacked, HasPacked}
+use Rattle.jul_cover.specs.PackedSets.{pack_at, is_open}
 use Rattle.jul_cover.specs.Offers.{IsRootOf, IsTable}
 use Rattle.jul_cover.specs.Choosing.{active_of, held_by, chosen_of}
 use Rattle.jul_cover.specs.CoverMoves.{place_for, next_place, moves_of}

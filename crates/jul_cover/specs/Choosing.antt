@@ -1,5 +1,5 @@
 -- Which of the drawn sets are active, and which of these are chosen.
-use Rattle.std.specs.Prelude.{ℕ, ◌+◌, ◌*◌, ◌^◌, ◌==◌, Bool, List, length, count_by, nat_le}
+use Rattle.std.specs.Prelude.{ℕ, ◌+◌, ◌*◌, ◌^◌, ◌==◌, List, length, count_by, nat_le}
 use Rattle.std.specs.List.{filter}
 
 -- those of the drawn sets that still have 2 ^ b elements

@@ -1,5 +1,5 @@
 -- All that the rounds of a cover carry, what a turn asks for, and what it does.
-use Rattle.std.specs.Prelude.{◌≡◌, ◌≢◌, ℕ, suc, ◌+◌, ◌<◌, ◌≤◌, ◌==◌, not, List, [], ◌∷◌, length, All, Contains, slice_index, if◌then◌else◌}
+use Rattle.std.specs.Prelude.{◌≡◌, ◌≢◌, ℕ, ◌+◌, ◌<◌, ◌≤◌, ◌==◌, not, List, length, All, Contains, slice_index, if◌then◌else◌}
 use Rattle.std.specs.List.{filter, flat_map, sum_by}
 use Rattle.std.specs.List.Sorted.{IsStrictlyIncreasing}
 use Rattle.jul_base.specs.declared.limits.TheConstants.{NONE, MAX_N}

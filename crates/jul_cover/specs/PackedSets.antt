@@ -1,6 +1,6 @@
 -- Sets that are kept packed: of each set the elements that weren't covered when it was packed last.
-use Rattle.std.specs.Prelude.{◌≡◌, ℕ, ◌+◌, ◌<◌, ◌≤◌, ◌==◌, Bool, List, length, take, drop, All, Contains, slice_index}
-use Rattle.std.specs.List.{filter}
+use Rattle.std.specs.Prelude.{◌≡◌, ℕ, ◌+◌, ◌<◌, ◌≤◌, ◌==◌, Bool, false, List, length, take, drop, All, Contains, slice_index}
+use Rattle.std.specs.List.{filter, slice_index_or}
 use Rattle.jul_base.specs.declared.limits.TheConstants.{NONE, MAX_N}
 use Rattle.jul_base.specs.CoverRounds.{set_at}
 use Rattle.jul_cover.specs.declared.packed_sets.PackedSets.{PackedSets}
@@ -21,6 +21,11 @@ pub record ArePacked (p : PackedSets) : Type 0 where
 -- nothing covers e
 abbrev pub is_open : List ℕ → ℕ → Bool
 is_open by e = slice_index by e == NONE
+
+-- a mark for each vertex, set where nothing covers it
+pub record AreOpen (open' : List Bool) (by : List ℕ) : Type 0 where
+  pub size : length open' ≡ length by
+  pub each : (e : ℕ) → e < length by → slice_index_or open' e false ≡ is_open by e
 
 -- the listed sets were packed down to the elements that nothing covers, and the others are as they were
 pub record HasPacked (by listed : List ℕ) (old new : PackedSets) : Type 0 where

@@ -7,7 +7,7 @@ ghost use Rattle.jul_cover.specs.Offers.{IsRootOf};
 ghost use Rattle.jul_cover.specs.Choosing.{active_of, held_by, chosen_of};
 
 use crate::packed_sets::PackedSets;
-use crate::packing::pack_of;
+use crate::packing::{pack_of, size_of};
 use crate::sizes::reaches;
 use jul_words::{MinSeat, MinWords};
 use std::alloc::{AllocError, Global};
@@ -26,7 +26,7 @@ pub(crate) fn active_sets(
 {
     let mut active = Vec::new(alloc);
     for s in drawn {
-        if reaches(pack_of(packs, *s).len() as u64, bucket) {
+        if reaches(size_of(packs, *s) as u64, bucket) {
             active.push(*s)?;
         }
     }
@@ -90,7 +90,7 @@ pub(crate) fn work_of(packs: &PackedSets, listed: &[u32]) -> u64
 {
     let mut work = listed.len() as u64;
     for s in listed {
-        work = work.saturating_add(pack_of(packs, *s).len() as u64);
+        work = work.saturating_add(size_of(packs, *s) as u64);
     }
     work
 }

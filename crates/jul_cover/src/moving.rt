@@ -6,8 +6,8 @@ ghost use Rattle.jul_cover.specs.PackedSets.{pack_at, ArePacked};
 ghost use Rattle.jul_cover.specs.CoverMoves.{next_place, move_of, moves_of, CanMove};
 
 use crate::packed_sets::PackedSets;
-use crate::packing::pack_of;
-use crate::sizes::place_of;
+use crate::packing::size_of;
+use crate::sizes::{STEPS_FOR_A_SHARE, place_of};
 use jul_base::{Free, Gate, NONE};
 use jul_bucket::{Buckets, Dest};
 use jul_pool::{Job, Team, run_all};
@@ -79,7 +79,7 @@ fn next_of(packs: &PackedSets, round: &[u64], s: u32) -> u64
     ensures { result ≡ next_place (pack_at packs.now) round.now s }
 {
     if round[s as usize] == NONE {
-        place_of(pack_of(packs, s).len())
+        place_of(size_of(packs, s))
     } else {
         NONE
     }
@@ -87,7 +87,7 @@ fn next_of(packs: &PackedSets, round: &[u64], s: u32) -> u64
 
 /// The move of each drawn set that wasn't chosen and has elements left to the bucket of its size.
 ///
-/// Workers make a group of moves for each chunk of at most `team.chunk` sets. Few sets start no thread.
+/// Workers make a group of moves for each chunk of at most `team.chunk` sets. Few sets start no thread, and one worker makes one group.
 pub(crate) fn moves_after<R: Threads + Sync, G: Gate>(
     rt: &R,
     alloc: Global,
@@ -105,6 +105,10 @@ pub(crate) fn moves_after<R: Threads + Sync, G: Gate>(
 
     ensures { IfOk result (λ moves. moves.items ≡ moves_of (pack_at packs.now) round.now drawn.now) }
 {
+    let crew = team.for_work(drawn.len() as u64 / STEPS_FOR_A_SHARE);
+    if crew.workers == 1 {
+        return moves_among(alloc, drawn, packs, round, buckets);
+    }
     let chunks = drawn.len().div_ceil(team.chunk as usize) as u32;
     let job = MoveJob {
         alloc,
@@ -114,7 +118,6 @@ pub(crate) fn moves_after<R: Threads + Sync, G: Gate>(
         round,
         buckets,
     };
-    let team = team.for_work(drawn.len() as u64);
-    let done = run_all(rt, alloc, &team, chunks, &job, Free::root())?;
+    let done = run_all(rt, alloc, &crew, chunks, &job, Free::root())?;
     joined(alloc, &done.outs)
 }

@@ -5,6 +5,7 @@ ghost use Rattle.jul_cover.specs.Offers.{CanOffer, Offers, HasOffered, IsRootOf}
 
 use crate::packed_sets::PackedSets;
 use crate::packing::pack_of;
+use crate::sizes::STEPS_FOR_A_SHARE;
 use jul_base::Gate;
 use jul_pool::Team;
 use jul_subset::{VertexFn, VertexSubset, vertex_map};
@@ -61,7 +62,7 @@ pub(crate) fn offer_all<R: Threads + Sync, G: Gate>(
     prove!(members.n() == packs.n);
     let f = Offer { packs, base, words };
     let hand = MinHand { words, seat };
-    let crew = team.for_work(work);
+    let crew = team.for_work(work / STEPS_FOR_A_SHARE);
     let (_, hand) = vertex_map(rt, alloc, &crew, members, &f, hand)?;
     Ok(hand.seat)
 }

@@ -3,10 +3,9 @@ ghost use Rattle.std.specs.Prelude.{◌≡◌, ◌≢◌, ℕ, ◌-◌, ◌<◌,
 ghost use Rattle.std.specs.List.{filter};
 ghost use Rattle.jul_base.specs.declared.limits.TheConstants.{MAX_N};
 ghost use Rattle.jul_base.specs.CoverRounds.{set_at};
-ghost use Rattle.jul_cover.specs.PackedSets.{pack_at, is_open, ArePacked, HasPacked};
+ghost use Rattle.jul_cover.specs.PackedSets.{pack_at, is_open, ArePacked, AreOpen, HasPacked};
 
 use crate::packed_sets::PackedSets;
-use jul_base::NONE;
 use jul_rows::SetRows;
 use std::alloc::{AllocError, Global};
 
@@ -50,22 +49,35 @@ pub(crate) fn pack_of(p: &PackedSets, s: u32) -> &[u32]
     pack
 }
 
-/// Packs each of these sets down to the elements that nothing covers.
-pub(crate) fn pack_each(p: &mut PackedSets, listed: &[u32], by: &[u64])
+/// How many elements are left of a set.
+#[inline]
+pub(crate) fn size_of(p: &PackedSets, s: u32) -> usize
+    requires packed { ArePacked p.now }
+    requires in_range { s < p.now.n }
+
+    ensures { result ≡ length (pack_at p.now s) }
+{
+    p.lens[s as usize]
+}
+
+/// Packs each of these sets down to the elements that nothing covers, by their marks.
+pub(crate) fn pack_each(p: &mut PackedSets, listed: &[u32], open: &[bool], by: &[u64])
     requires packed { ArePacked p.old }
+    requires open { AreOpen open.now by.now }
     requires by { length by.now ≡ p.old.n }
     requires in_range { All (λ s. s < p.old.n) listed.now }
 
     ensures { HasPacked by.now listed.now p.old p.new }
 {
     for s in listed {
-        pack_one(p, *s, by);
+        pack_one(p, *s, open, by);
     }
 }
 
 /// Packs a set down to the elements that nothing covers.
-fn pack_one(p: &mut PackedSets, s: u32, by: &[u64])
+fn pack_one(p: &mut PackedSets, s: u32, open: &[bool], by: &[u64])
     requires packed { ArePacked p.old }
+    requires open { AreOpen open.now by.now }
     requires by { length by.now ≡ p.old.n }
     requires in_range { s < p.old.n }
 
@@ -76,13 +88,14 @@ fn pack_one(p: &mut PackedSets, s: u32, by: &[u64])
 {
     let start = p.starts[s as usize];
     let end = start + p.lens[s as usize];
-    let kept = keep_part(p.items.as_mut_slice(), start, end, by);
+    let kept = keep_part(p.items.as_mut_slice(), start, end, open, by);
     p.lens[s as usize] = kept;
 }
 
 /// Moves the elements from `start` to `end` that nothing covers to the front of that part, in order, and tells how many they
 /// are.
-fn keep_part(items: &mut [u32], start: usize, end: usize, by: &[u64]) -> usize
+fn keep_part(items: &mut [u32], start: usize, end: usize, open: &[bool], by: &[u64]) -> usize
+    requires open { AreOpen open.now by.now }
     requires ordered { start ≤ end }
     requires inside { end ≤ length items.old }
     requires within { All (λ e. e < length by.now) (take (end - start) (drop start items.old)) }
@@ -93,23 +106,25 @@ fn keep_part(items: &mut [u32], start: usize, end: usize, by: &[u64]) -> usize
     ensures front { take result (drop start items.new)
         ≡ filter (is_open by.now) (take (end - start) (drop start items.old)) }
 {
-    keep_open(&mut items[start..end], by)
+    keep_open(&mut items[start..end], open, by)
 }
 
 /// Moves the elements that nothing covers to the front, in order, and tells how many they are.
-fn keep_open(elements: &mut [u32], by: &[u64]) -> usize
+///
+/// The marks are read, and `by` says what they mean.
+fn keep_open(elements: &mut [u32], open: &[bool], by: &[u64]) -> usize
+    requires open { AreOpen open.now by.now }
     requires within { All (λ e. e < length by.now) elements.old }
 
     ensures few { result ≤ length elements.old }
     ensures front { take result elements.new ≡ filter (is_open by.now) elements.old }
 {
+    let _ = by;
     let mut kept = 0;
     for i in 0..elements.len() {
         let e = elements[i];
-        if by[e as usize] == NONE {
-            elements[kept] = e;
-            kept += 1;
-        }
+        elements[kept] = e;
+        kept += usize::from(open[e as usize]);
     }
     kept
 }

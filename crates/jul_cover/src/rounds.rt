@@ -1,6 +1,7 @@
 //! Draw after draw, till no set is in a bucket.
 ghost use Rattle.std.specs.Prelude.{◌≡◌, ℕ, List, IfOk};
 ghost use Rattle.jul_bucket.specs.Places.{AllNone};
+ghost use Rattle.jul_cover.specs.PackedSets.{AreOpen};
 ghost use Rattle.jul_cover.specs.CoverWork.{IsCovering};
 
 use crate::packed_sets::PackedSets;
@@ -25,10 +26,12 @@ pub(crate) fn cover_rounds<R: Threads + Sync, G: Gate>(
     at: Standing,
     round: &mut [u64],
     by: &mut [u64],
+    open: &mut [bool],
     buckets: &mut Buckets,
 ) -> Result<Standing, AllocError>
     requires covering { IsCovering sets.now bids.now owners.now at.bids.home at.owners.home packs.old round.old by.old
         (record { round = at.round; bids = at.bids; owners = at.owners }) buckets.old }
+    requires open { AreOpen open.old by.old }
 
     ensures covering { IfOk result (λ r. IsCovering sets.now bids.now owners.now at.bids.home at.owners.home
         packs.new round.new by.new (record { round = r.round; bids = r.bids; owners = r.owners }) buckets.new) }
@@ -41,7 +44,7 @@ pub(crate) fn cover_rounds<R: Threads + Sync, G: Gate>(
             return Ok(at);
         };
         at = take_turn(
-            rt, alloc, team, packs, drawn, bucket, bids, owners, at, round, by, buckets,
+            rt, alloc, team, packs, drawn, bucket, bids, owners, at, round, by, open, buckets,
         )?;
     }
 }

@@ -3,15 +3,17 @@ ghost use Rattle.std.specs.Prelude.{◌≡◌, ◌<◌, length, All};
 ghost use Rattle.std.specs.List.{flat_map};
 ghost use Rattle.jul_words.specs.Seats.{IsSeatOf, IsAlone};
 ghost use Rattle.jul_words.specs.Least.{word_of};
-ghost use Rattle.jul_cover.specs.PackedSets.{pack_at, ArePacked};
+ghost use Rattle.jul_cover.specs.PackedSets.{pack_at, ArePacked, AreOpen};
 ghost use Rattle.jul_cover.specs.Offers.{IsRootOf};
 ghost use Rattle.jul_cover.specs.Columns.{AreWritten};
 
 use crate::packed_sets::PackedSets;
 use crate::packing::pack_of;
+use jul_base::NONE;
 use jul_words::{MinSeat, MinWords};
 
-/// Writes the round of each chosen set, and at each of its elements what the word of the owner has become.
+/// Writes the round of each chosen set, and at each of its elements what the word of the owner has become and whether it is
+/// still open.
 pub(crate) fn take_chosen(
     packs: &PackedSets,
     chosen: &[u32],
@@ -20,34 +22,47 @@ pub(crate) fn take_chosen(
     seat: &mut MinSeat,
     round: &mut [u64],
     by: &mut [u64],
+    open: &mut [bool],
 )
     requires packed { ArePacked packs.now }
     requires in_range { All (λ s. s < packs.now.n) chosen.now }
     requires root { IsRootOf packs.now.n words.now seat.old }
     requires round { length round.old ≡ packs.now.n }
     requires by { length by.old ≡ packs.now.n }
+    requires open { AreOpen open.old by.old }
 
     ensures same { seat.new ≡ seat.old }
     ensures round { AreWritten chosen.now (λ _. t) round.old round.new }
     ensures by { AreWritten (flat_map (pack_at packs.now) chosen.now) (word_of seat.old) by.old by.new }
+    ensures open { AreOpen open.new by.new }
 {
     for s in chosen {
         round[*s as usize] = t;
-        take_words(pack_of(packs, *s), words, seat, by);
+        take_words(pack_of(packs, *s), words, seat, by, open);
     }
 }
 
-/// Writes at each of these elements what its word has become.
-fn take_words(elements: &[u32], words: &MinWords, seat: &mut MinSeat, by: &mut [u64])
+/// Writes at each of these elements what its word has become, and whether that is `NONE`.
+fn take_words(
+    elements: &[u32],
+    words: &MinWords,
+    seat: &mut MinSeat,
+    by: &mut [u64],
+    open: &mut [bool],
+)
     requires table { IsSeatOf words.now seat.old }
     requires alone { IsAlone seat.old }
     requires words { All (λ e. e < length seat.old.home.starts) elements.now }
     requires by { All (λ e. e < length by.old) elements.now }
+    requires open { AreOpen open.old by.old }
 
     ensures same { seat.new ≡ seat.old }
     ensures by { AreWritten elements.now (word_of seat.old) by.old by.new }
+    ensures open { AreOpen open.new by.new }
 {
     for e in elements {
-        by[*e as usize] = words.load(seat, *e);
+        let word = words.load(seat, *e);
+        by[*e as usize] = word;
+        open[*e as usize] = word == NONE;
     }
 }

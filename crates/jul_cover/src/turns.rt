@@ -4,7 +4,7 @@ ghost use Rattle.std.specs.List.{flat_map};
 ghost use Rattle.std.specs.List.Sorted.{IsStrictlyIncreasing};
 ghost use Rattle.jul_base.specs.declared.limits.TheConstants.{MAX_N};
 ghost use Rattle.jul_words.specs.Least.{word_of};
-ghost use Rattle.jul_cover.specs.PackedSets.{pack_at, ArePacked};
+ghost use Rattle.jul_cover.specs.PackedSets.{pack_at, ArePacked, AreOpen};
 ghost use Rattle.jul_cover.specs.CoverBids.{bid_base};
 ghost use Rattle.jul_cover.specs.Columns.{AreWritten};
 ghost use Rattle.jul_cover.specs.Offers.{IsRootOf, HasOffered};
@@ -58,21 +58,24 @@ pub(crate) fn take_turn<R: Threads + Sync, G: Gate>(
     at: Standing,
     round: &mut [u64],
     by: &mut [u64],
+    open: &mut [bool],
     buckets: &mut Buckets,
 ) -> Result<Standing, AllocError>
     requires can { CanTurn bids.now owners.now bucket drawn.items packs.old round.old by.old
         (record { round = at.round; bids = at.bids; owners = at.owners }) buckets.old }
+    requires open { AreOpen open.old by.old }
 
-    ensures { IfOk result (λ r. HasTurned bucket drawn.items packs.old packs.new round.old by.old round.new by.new
+    ensures turned { IfOk result (λ r. HasTurned bucket drawn.items packs.old packs.new round.old by.old round.new by.new
         (record { round = at.round; bids = at.bids; owners = at.owners })
         (record { round = r.round; bids = r.bids; owners = r.owners }) buckets.old buckets.new) }
+    ensures open { IfOk result (λ _. AreOpen open.new by.new) }
 {
     let Standing {
         round: t,
         bids: bid_seat,
         owners: owner_seat,
     } = at;
-    pack_each(packs, drawn.as_slice(), by);
+    pack_each(packs, drawn.as_slice(), open, by);
     let active = active_sets(alloc, packs, drawn.as_slice(), bucket)?;
     let next = round_after(t, active.as_slice());
     let chosen = choose(rt, alloc, team, packs, active, bucket, t, bids, bid_seat)?;
@@ -87,6 +90,7 @@ pub(crate) fn take_turn<R: Threads + Sync, G: Gate>(
         owner_seat,
         round,
         by,
+        open,
     )?;
     let moves = moves_after(rt, alloc, team, drawn.as_slice(), packs, round, buckets)?;
     buckets.update_buckets(moves.as_slice())?;
@@ -151,6 +155,7 @@ fn give<R: Threads + Sync, G: Gate>(
     seat: MinSeat,
     round: &mut [u64],
     by: &mut [u64],
+    open: &mut [bool],
 ) -> Result<MinSeat, AllocError>
     requires packed { ArePacked packs.now }
     requires increasing { IsStrictlyIncreasing chosen.items }
@@ -158,11 +163,13 @@ fn give<R: Threads + Sync, G: Gate>(
     requires root { IsRootOf packs.now.n words.now seat }
     requires round { length round.old ≡ packs.now.n }
     requires by { length by.old ≡ packs.now.n }
+    requires open { AreOpen open.old by.old }
 
     ensures offered { IfOk result (λ r. HasOffered chosen.items (pack_at packs.now) 0 seat r) }
     ensures round { IfOk result (λ _. AreWritten chosen.items (λ _. t) round.old round.new) }
     ensures by { IfOk result (λ r.
         AreWritten (flat_map (pack_at packs.now) chosen.items) (word_of r) by.old by.new) }
+    ensures open { IfOk result (λ _. AreOpen open.new by.new) }
 {
     let work = work_of(packs, chosen.as_slice());
     let members = VertexSubset::from_increasing(alloc, packs.n, chosen);
@@ -170,6 +177,6 @@ fn give<R: Threads + Sync, G: Gate>(
     let Some(chosen) = members.as_slice() else {
         unreachable!()
     };
-    take_chosen(packs, chosen, t, words, &mut seat, round, by);
+    take_chosen(packs, chosen, t, words, &mut seat, round, by, open);
     Ok(seat)
 }

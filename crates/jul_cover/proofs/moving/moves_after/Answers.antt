@@ -1,4 +1,4 @@
-use Rattle.std.proofs.Common.{◌≡◌, ◌*◌, ◌≤◌, ◌∙◌, sym, subst, length}
+use Rattle.std.proofs.Common.{◌≡◌, ◌*◌, ◌≤◌, subst, length}
 use Rattle.std.specs.Prelude.{IfOk}
 use Rattle.std.proofs.lemmas.Grind.{div_ceil_times}
 use Rattle.jul_cover.specs.PackedSets.{pack_at}

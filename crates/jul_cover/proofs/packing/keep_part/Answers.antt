@@ -1,4 +1,4 @@
-use Rattle.std.proofs.Common.{◌≡◌, ◌-◌, length, ◌∙◌}
+use Rattle.std.proofs.Common.{◌∙◌}
 use borrow.Rule.Slice.PartMut.{drop_put, mid_len}
 use Rattle.jul_cover.proofs.packing.keep_part.Goals as goal
 

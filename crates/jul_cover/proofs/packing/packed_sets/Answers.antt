@@ -1,4 +1,4 @@
-use Rattle.std.proofs.Common.{◌≡◌, ◌∙◌, ◌+◌, List, [], ◌∷◌, ◌++◌, ℕ, length, subst, ap, arith}
+use Rattle.std.proofs.Common.{◌≡◌, ◌∙◌, [], ◌∷◌, ◌++◌, length, subst, ap, arith}
 use Rattle.jul_cover.specs.PackedSets.{AreFilled}
 use Rattle.jul_cover.proofs.PackingLaws.{filled_more, filled_whole}
 use Rattle.jul_cover.proofs.packing.packed_sets.Goals as goal

@@ -8,7 +8,7 @@ pub take_turn-requires-clause-can : goal.take_turn-requires-clause-can
 take_turn-requires-clause-can g c κs within =
     let few : length c.args.sets.now ≤ MAX_N = omega (arith, c.n.ensures.count, c.n.ensures.few) in
     let at : At = record { round = c.rounds.at.round; bids = c.rounds.at.bids; owners = c.rounds.at.owners } in
-    can_turn c.args.sets.now c.n.ensures.sets few c.args.bids.now c.args.owners.now c.args.at.bids.home c.args.at.owners.home c.rounds.packs c.rounds.round c.rounds.by at c.rounds.buckets c.rounds.invariant
+    can_turn c.args.sets.now c.n.ensures.sets few c.args.bids.now c.args.owners.now c.args.at.bids.home c.args.at.owners.home c.rounds.packs c.rounds.round c.rounds.by at c.rounds.buckets c.rounds.invariant.0
     c.in-Some.bucket c.in-Some.drawn.items c.next_bucket.new.self (drawn_at c.rounds.buckets c.next_bucket.new.self c.in_ok-bucket.field-0 c.in-Some.bucket c.in-Some.drawn c.in-Some.is c.in_ok-bucket.ensures.drawn)
 
 pub rounds-smaller : goal.rounds-smaller
@@ -16,15 +16,17 @@ rounds-smaller g c =
     let few : length c.args.sets.now ≤ MAX_N = omega (arith, c.n.ensures.count, c.n.ensures.few) in
     let at : At = record { round = c.rounds.at.round; bids = c.rounds.at.bids; owners = c.rounds.at.owners } in
     let after : At = record { round = c.in_ok-at.at.round; bids = c.in_ok-at.at.bids; owners = c.in_ok-at.at.owners } in
-    fewer c.args.sets.now c.n.ensures.sets few c.args.bids.now c.args.owners.now c.args.at.bids.home c.args.at.owners.home c.rounds.packs c.rounds.round c.rounds.by at c.rounds.buckets c.rounds.invariant
+    fewer c.args.sets.now c.n.ensures.sets few c.args.bids.now c.args.owners.now c.args.at.bids.home c.args.at.owners.home c.rounds.packs c.rounds.round c.rounds.by at c.rounds.buckets c.rounds.invariant.0
     c.in-Some.bucket c.in-Some.drawn.items c.next_bucket.new.self (drawn_at c.rounds.buckets c.next_bucket.new.self c.in_ok-bucket.field-0 c.in-Some.bucket c.in-Some.drawn c.in-Some.is c.in_ok-bucket.ensures.drawn)
-    c.take_turn.new.packs c.take_turn.new.round c.take_turn.new.by after c.take_turn.new.buckets c.in_ok-at.ensures
+    c.take_turn.new.packs c.take_turn.new.round c.take_turn.new.by after c.take_turn.new.buckets c.in_ok-at.ensures.turned
 
 pub rounds-preserved : goal.rounds-preserved
 rounds-preserved g c =
     let few : length c.args.sets.now ≤ MAX_N = omega (arith, c.n.ensures.count, c.n.ensures.few) in
     let at : At = record { round = c.rounds.at.round; bids = c.rounds.at.bids; owners = c.rounds.at.owners } in
-    let after : At = record { round = c.in_ok-at.at.round; bids = c.in_ok-at.at.bids; owners = c.in_ok-at.at.owners } in
-    still_covering c.args.sets.now c.n.ensures.sets few c.args.bids.now c.args.owners.now c.args.at.bids.home c.args.at.owners.home c.rounds.packs c.rounds.round c.rounds.by at c.rounds.buckets c.rounds.invariant
-    c.in-Some.bucket c.in-Some.drawn.items c.next_bucket.new.self (drawn_at c.rounds.buckets c.next_bucket.new.self c.in_ok-bucket.field-0 c.in-Some.bucket c.in-Some.drawn c.in-Some.is c.in_ok-bucket.ensures.drawn)
-    c.take_turn.new.packs c.take_turn.new.round c.take_turn.new.by after c.take_turn.new.buckets c.in_ok-at.ensures
+    let after : At = record { round = c.in_ok-at.at.round; bids = c.in_ok-at.at.bids; owners = c.in_ok-at.at.owners } in (
+      still_covering c.args.sets.now c.n.ensures.sets few c.args.bids.now c.args.owners.now c.args.at.bids.home c.args.at.owners.home c.rounds.packs c.rounds.round c.rounds.by at c.rounds.buckets c.rounds.invariant.0
+          c.in-Some.bucket c.in-Some.drawn.items c.next_bucket.new.self (drawn_at c.rounds.buckets c.next_bucket.new.self c.in_ok-bucket.field-0 c.in-Some.bucket c.in-Some.drawn c.in-Some.is c.in_ok-bucket.ensures.drawn)
+          c.take_turn.new.packs c.take_turn.new.round c.take_turn.new.by after c.take_turn.new.buckets c.in_ok-at.ensures.turned,
+      c.in_ok-at.ensures.open,
+    )

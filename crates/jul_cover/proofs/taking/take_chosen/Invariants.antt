@@ -1,7 +1,7 @@
 use Rattle.std.proofs.Common.{◌≡◌, take}
 use Rattle.std.specs.List.{flat_map}
 use Rattle.jul_words.specs.Least.{word_of}
-use Rattle.jul_cover.specs.PackedSets.{pack_at}
+use Rattle.jul_cover.specs.PackedSets.{pack_at, AreOpen}
 use Rattle.jul_cover.specs.Columns.{AreWritten}
 use Rattle.jul_cover.proofs.taking.take_chosen.Given as goal
 
@@ -10,3 +10,4 @@ invariant-loop-s l =
     (l.seat ≡ l.fn.seat)
     × AreWritten (take l.s-index l.chosen) (λ _. l.t) l.fn.round l.round
     × AreWritten (flat_map (pack_at l.packs) (take l.s-index l.chosen)) (word_of l.fn.seat) l.fn.by l.by
+    × AreOpen l.open l.by
