@@ -83,6 +83,17 @@ def test_greatest_distances(tally, folder):
     compare_long(tally, folder, f"delta --delta {MAX_W} chain", b"Distances\n%d\n0 0 -\n" % MAX_N, tree)
 
 
+def test_both_limits(tally, folder):
+    """As many vertices and as many places as there may be: a ring in which each vertex has the four before and behind it."""
+    near = (-4, -3, -2, -1, 1, 2, 3, 4)
+    rows = blocks(MAX_N, lambda v: b"%d\n%d\n%d\n%d\n%d\n%d\n%d\n%d\n" % tuple((v + step) % MAX_N for step in near))
+    write_blocks(folder, "ring", b"AdjacencyGraph %d %d\n" % (MAX_N, MAX_M), blocks(MAX_N, lambda v: b"%d\n" % (8 * v)), rows)
+    compare_long(tally, folder, "kcore ring", b"Cores\n%d\n" % MAX_N, blocks(MAX_N, lambda v: b"8 0\n"))
+    compare_long(tally, folder, "wbfs --bare ring", b"", blocks(MAX_N, lambda v: b"%d\n" % ((min(v, MAX_N - v) + 3) // 4)))
+    write_blocks(folder, "witness", b"Cores\n%d\n" % MAX_N, blocks(MAX_N, lambda v: b"8 0\n"))
+    tally.compare("check ring witness", program.run([b"check", b"ring", b"witness"], b"", folder), (0, b"yes\n", b""))
+
+
 def test(tally, folder):
     """All of them."""
     for words, line in DEMOS:
@@ -91,3 +102,4 @@ def test(tally, folder):
     test_most_vertices(tally, folder)
     test_most_places(tally, folder)
     test_greatest_distances(tally, folder)
+    test_both_limits(tally, folder)

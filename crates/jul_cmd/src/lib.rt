@@ -23,4 +23,8 @@ pub use running::run;
 pub use statuses::{Status, Which};
 
 #[cfg(test)]
+mod hostile;
+#[cfg(test)]
 mod tests;
+#[cfg(test)]
+mod trials;

@@ -1,105 +1,16 @@
 //! Whole runs on small graphs. Distances, verdicts and the places of faults were worked out by hand.
-use crate::{Status, Which, run};
-use jul_base::{Gate, MemShelf, MemSink, OpenGate};
+use crate::Status;
+use crate::trials::{
+    APART, FAR, LOOP, LOWERED_TWICE, LOWERED_TWICE_TREE, NO_WEIGHTS, NOTHING, OVERLAPPING,
+    OVERLAPPING_COVER, TRIANGLE, TRIANGLE_CORES, TWO_SETS, TWO_SETS_COVER, TWO_TRIANGLES,
+    TWO_TRIANGLES_CORES, TWO_WAYS, TWO_WAYS_TREE, Trial, expect_answer, outcome_of, outcome_with,
+    trial_of,
+};
+use jul_base::Gate;
 use std::alloc::{AllocError, Global};
-use std::process::Abort;
 use std::sync::atomic::{AtomicU64, Ordering};
 use std::test::Fail;
 use std::thread::Threads;
-
-/// Two ways to vertex 1: the edge of weight 5, and by way of 2.
-const TWO_WAYS: &str = "WeightedAdjacencyGraph\r\n3 3\r\n0 2 2\t1 2 1\n5 1 2";
-/// A triangle with one vertex hanging on it.
-const TRIANGLE: &str = "AdjacencyGraph 4 8 0 2 4 7 1 2 0 2 0 1 3 2";
-/// One edge, and a vertex that isn't reached.
-const APART: &str = "AdjacencyGraph 3 1 0 1 1 1";
-
-/// Two triangles with an edge between them.
-const TWO_TRIANGLES: &str = "AdjacencyGraph 6 14 0 2 4 7 10 12 1 2 0 2 0 1 3 2 4 5 3 5 3 4";
-/// A vertex that is lowered in the bucket that it was drawn from.
-const LOWERED_TWICE: &str = "WeightedAdjacencyGraph 4 4 0 2 3 4 1 2 3 1 9 1 5 6";
-/// Two sets of four elements with three in common.
-const OVERLAPPING: &str = "AdjacencyGraph 9 8 0 4 8 8 8 8 8 8 8 4 5 6 7 5 6 7 8";
-
-const LOOP: &str = "AdjacencyGraph 1 1 0 0";
-
-const NOTHING: &str = "AdjacencyGraph\n0\n0\n";
-/// Two edges of no weight between 1 and 2, and one of weight 5 from 0.
-const NO_WEIGHTS: &str = "WeightedAdjacencyGraph 3 3 0 1 2 1 2 1 5 0 0";
-/// Two sets of two elements with one in common.
-const TWO_SETS: &str = "AdjacencyGraph 5 4 0 2 4 4 4 2 3 3 4";
-
-/// A run over a shelf of a graph `g` and a witness `w`, and sinks that fail at the calls named, 0 for none.
-#[derive(Clone, Copy)]
-struct Trial<'a> {
-    words: &'a [&'a str],
-    files: &'a [(&'a str, &'a str)],
-    read_fails: u64,
-    write_fails: u64,
-    message_fails: u64,
-}
-
-/// What a run left.
-#[derive(Drop)]
-struct Outcome {
-    status: Status,
-    out: Vec<u8>,
-    err: Vec<u8>,
-}
-
-fn trial_of<'a>(words: &'a [&'a str], files: &'a [(&'a str, &'a str)]) -> Trial<'a> {
-    Trial {
-        words,
-        files,
-        read_fails: 0,
-        write_fails: 0,
-        message_fails: 0,
-    }
-}
-
-fn outcome_of<R: Threads + Sync>(
-    rt: &R,
-    alloc: Global,
-    trial: &Trial<'_>,
-) -> Result<Outcome, AllocError> {
-    outcome_with(rt, alloc, trial, &OpenGate)
-}
-
-fn outcome_with<R: Threads + Sync, G: Gate>(
-    rt: &R,
-    alloc: Global,
-    trial: &Trial<'_>,
-    gate: &G,
-) -> Result<Outcome, AllocError> {
-    let mut words = Vec::new(alloc);
-    for word in trial.words {
-        words.push(String::from_str(alloc, word)?)?;
-    }
-    let mut stored = Vec::new(alloc);
-    for (name, text) in trial.files {
-        let name = String::from_str(alloc, name)?;
-        stored.push((name, Vec::from_slice(alloc, text.as_bytes())?))?;
-    }
-    let mut files = MemShelf::new(stored, 5, Vec::from_slice(alloc, &[trial.read_fails])?);
-    let fails = Vec::from_slice(alloc, &[trial.write_fails])?;
-    let mut out = MemSink::new(Vec::with_capacity(alloc, 100)?, 4, fails);
-    let fails = Vec::from_slice(alloc, &[trial.message_fails])?;
-    let mut err = MemSink::new(Vec::with_capacity(alloc, 200)?, 200, fails);
-    let status = run(
-        rt,
-        alloc,
-        words.as_slice(),
-        &mut files,
-        &mut out,
-        &mut err,
-        gate,
-    );
-    Ok(Outcome {
-        status,
-        out: Vec::from_slice(alloc, out.bytes.as_slice())?,
-        err: Vec::from_slice(alloc, err.bytes.as_slice())?,
-    })
-}
 
 #[test]
 fn least_distances_are_written(rt: HostRuntime) -> Result<(), Fail> {
@@ -108,15 +19,9 @@ fn least_distances_are_written(rt: HostRuntime) -> Result<(), Fail> {
         (TWO_WAYS, "0\n3\n1\n"),
         ("WeightedAdjacencyGraph 3 3 0 1 2 1 2 1 0 0 0", "0\n0\n0\n"),
         (APART, "0\n1\n-\n"),
-        (
-            "WeightedAdjacencyGraph 3 2 0 1 2 1 2 4294967295 4294967295",
-            "0\n4294967295\n8589934590\n",
-        ),
+        (FAR, "0\n4294967295\n8589934590\n"),
     ] {
-        let outcome = outcome_of(&rt, rt.alloc(), &trial_of(&words, &[("g", file)]))?;
-        assert_eq!(rt; outcome.status, Status::Done, "{file}");
-        assert_eq!(rt; outcome.out.as_slice(), text.as_bytes(), "{file}");
-        assert_eq!(rt; outcome.err.len(), 0, "{file}");
+        expect_answer(&rt, rt.alloc(), &trial_of(&words, file, ""), 0, text, "")?;
     }
     Ok(())
 }
@@ -125,10 +30,8 @@ fn least_distances_are_written(rt: HostRuntime) -> Result<(), Fail> {
 fn a_width_of_buckets_changes_no_distance(rt: HostRuntime) -> Result<(), Fail> {
     for delta in ["1", "3", "4294967295"] {
         let words = ["delta", "--bare", "--source", "0", "--delta", delta, "g"];
-        let outcome = outcome_of(&rt, rt.alloc(), &trial_of(&words, &[("g", TWO_WAYS)]))?;
-        assert_eq!(rt; outcome.status, Status::Done, "{delta}");
-        assert_eq!(rt; outcome.out.as_slice(), b"0\n3\n1\n".as_slice(), "{delta}");
-        assert_eq!(rt; outcome.err.len(), 0, "{delta}");
+        let trial = trial_of(&words, TWO_WAYS, "");
+        expect_answer(&rt, rt.alloc(), &trial, 0, "0\n3\n1\n", "")?;
     }
     Ok(())
 }
@@ -136,7 +39,7 @@ fn a_width_of_buckets_changes_no_distance(rt: HostRuntime) -> Result<(), Fail> {
 #[test]
 fn witnesses_are_judged(rt: HostRuntime) -> Result<(), Fail> {
     for (source, graph, witness, code, text) in [
-        ("0", TRIANGLE, "Cores\n4\n2 1\n2 1\n2 1\n1 0\n", 0, "yes\n"),
+        ("0", TRIANGLE, TRIANGLE_CORES, 0, "yes\n"),
         (
             "0",
             TRIANGLE,
@@ -167,13 +70,7 @@ fn witnesses_are_judged(rt: HostRuntime) -> Result<(), Fail> {
             "no 2 Unreached\n",
         ),
         ("1", TWO_WAYS, "Distances 3 - - - 0 0 - - - -", 0, "yes\n"),
-        (
-            "0",
-            TWO_SETS,
-            "Cover\n5\n0 -\n0 -\n- 0\n- 0\n- 1\n",
-            0,
-            "yes\n",
-        ),
+        ("0", TWO_SETS, TWO_SETS_COVER, 0, "yes\n"),
         (
             "0",
             TWO_SETS,
@@ -182,13 +79,24 @@ fn witnesses_are_judged(rt: HostRuntime) -> Result<(), Fail> {
             "no 4 NotHeld\n",
         ),
         ("0", NOTHING, "Cover 0", 0, "yes\n"),
+        // A sum that exceeds 2^64 - 1 isn't wrapped.
+        (
+            "2",
+            "WeightedAdjacencyGraph 3 1 0 1 1 1 4294967295",
+            "Distances 3 18446744073709551614 1 2 18446744073709551614 1 2 0 0 -",
+            1,
+            "no 0 Parent\n",
+        ),
     ] {
         let words = ["check", "g", "w", "--source", source];
-        let files = [("g", graph), ("w", witness)];
-        let outcome = outcome_of(&rt, rt.alloc(), &trial_of(&words, &files))?;
-        assert_eq!(rt; outcome.status.code(), code, "{witness}");
-        assert_eq!(rt; outcome.out.as_slice(), text.as_bytes(), "{witness}");
-        assert_eq!(rt; outcome.err.len(), 0, "{witness}");
+        expect_answer(
+            &rt,
+            rt.alloc(),
+            &trial_of(&words, graph, witness),
+            code,
+            text,
+            "",
+        )?;
     }
     Ok(())
 }
@@ -207,10 +115,7 @@ fn each_refusal_has_its_line(rt: HostRuntime) -> Result<(), Fail> {
         ),
     ] {
         let words = ["wbfs", "--bare", "--source", source, "g"];
-        let outcome = outcome_of(&rt, rt.alloc(), &trial_of(&words, &[("g", file)]))?;
-        assert_eq!(rt; outcome.status.code(), code, "{file}");
-        assert_eq!(rt; outcome.out.len(), 0, "{file}");
-        assert_eq!(rt; outcome.err.as_slice(), line.as_bytes(), "{file}");
+        expect_answer(&rt, rt.alloc(), &trial_of(&words, file, ""), code, "", line)?;
     }
     Ok(())
 }
@@ -251,11 +156,14 @@ fn each_refusal_of_a_witness_has_its_line(rt: HostRuntime) -> Result<(), Fail> {
         ),
     ] {
         let words = ["check", "g", name];
-        let files = [("g", graph), ("w", witness)];
-        let outcome = outcome_of(&rt, rt.alloc(), &trial_of(&words, &files))?;
-        assert_eq!(rt; outcome.status.code(), code, "{line}");
-        assert_eq!(rt; outcome.out.len(), 0, "{line}");
-        assert_eq!(rt; outcome.err.as_slice(), line.as_bytes(), "{line}");
+        expect_answer(
+            &rt,
+            rt.alloc(),
+            &trial_of(&words, graph, witness),
+            code,
+            "",
+            line,
+        )?;
     }
     Ok(())
 }
@@ -274,7 +182,7 @@ fn other_words_are_not_taken(rt: HostRuntime) -> Result<(), Fail> {
         ["demo", "peel", "--n", "1", "--pairs", "0", "--seed", "0"].as_slice(),
         ["delta", "--bare", "--source", "0", "g"].as_slice(),
     ] {
-        let outcome = outcome_of(&rt, rt.alloc(), &trial_of(words, &[("g", TWO_WAYS)]))?;
+        let outcome = outcome_of(&rt, rt.alloc(), &trial_of(words, TWO_WAYS, ""))?;
         assert_eq!(rt; outcome.status, Status::Usage);
         assert!(rt;
             outcome
@@ -286,137 +194,67 @@ fn other_words_are_not_taken(rt: HostRuntime) -> Result<(), Fail> {
     Ok(())
 }
 
-/// Ends the test where a missing file, a failed read, a failed write or a failed message is told otherwise.
-fn expect_told<R: Threads + Sync + Abort>(
-    rt: &R,
-    alloc: Global,
-    missing: &Trial<'_>,
-    found: &Trial<'_>,
-    part: &str,
-) -> Result<(), AllocError> {
-    let mut unread = *found;
-    unread.read_fails = 3;
-    for trial in [*missing, unread] {
-        let outcome = outcome_of(rt, alloc, &trial)?;
-        assert_eq!(rt; outcome.status, Status::ReadFault { file: Which::Graph });
-        assert_eq!(rt; outcome.out.len(), 0);
-        assert_eq!(rt; outcome.err.as_slice(), b"read fault: graph\n".as_slice());
-    }
-    let mut unwritten = *found;
-    unwritten.write_fails = 2;
-    let outcome = outcome_of(rt, alloc, &unwritten)?;
-    assert_eq!(rt; outcome.status, Status::WriteFault);
-    assert_eq!(rt; outcome.out.as_slice(), part.as_bytes());
-    assert_eq!(rt; outcome.err.as_slice(), b"write fault\n".as_slice());
-    unwritten.message_fails = 1;
-    let outcome = outcome_of(rt, alloc, &unwritten)?;
-    assert_eq!(rt; outcome.status, Status::WriteFault);
-    assert_eq!(rt; outcome.err.len(), 0);
-    Ok(())
-}
-
-#[test]
-fn failing_objects_are_told(rt: HostRuntime) -> Result<(), Fail> {
-    let words = ["wbfs", "--bare", "--source", "0", "g"];
-    let missing = trial_of(&words, &[("other", TWO_WAYS)]);
-    let found = trial_of(&words, &[("g", TWO_WAYS)]);
-    expect_told(&rt, rt.alloc(), &missing, &found, "0\n3\n")?;
-    let words = ["kcore", "g"];
-    let missing = trial_of(&words, &[("other", TRIANGLE)]);
-    let found = trial_of(&words, &[("g", TRIANGLE)]);
-    expect_told(&rt, rt.alloc(), &missing, &found, "Core")?;
-    Ok(())
-}
-
 #[test]
 fn results_are_written_whole_and_bare(rt: HostRuntime) -> Result<(), Fail> {
-    for (words, file, code, text) in [
-        (
-            ["kcore", "g"].as_slice(),
-            TRIANGLE,
-            0,
-            "Cores\n4\n2 1\n2 1\n2 1\n1 0\n",
-        ),
+    for (words, file, text) in [
+        (["kcore", "g"].as_slice(), TRIANGLE, TRIANGLE_CORES),
         (
             ["kcore", "g"].as_slice(),
             TWO_TRIANGLES,
-            0,
-            "Cores\n6\n2 0\n2 0\n2 1\n2 1\n2 0\n2 0\n",
+            TWO_TRIANGLES_CORES,
         ),
         (
             ["kcore", "g", "--bare"].as_slice(),
             TRIANGLE,
-            0,
             "2\n2\n2\n1\n",
         ),
-        (["kcore", "g"].as_slice(), LOOP, 0, "Cores\n1\n1 0\n"),
-        (["kcore", "g"].as_slice(), "AdjacencyGraph 2 1 0 1 1", 4, ""),
+        (["kcore", "g"].as_slice(), LOOP, "Cores\n1\n1 0\n"),
         (
             ["wbfs", "g", "--source=0"].as_slice(),
             TWO_WAYS,
-            0,
-            "Distances\n3\n0 0 -\n3 2 2\n1 1 0\n",
+            TWO_WAYS_TREE,
         ),
         (
             ["wbfs", "g"].as_slice(),
             APART,
-            0,
             "Distances\n3\n0 0 -\n1 1 0\n- - -\n",
         ),
         (
             ["--delta", "10", "delta", "g"].as_slice(),
             LOWERED_TWICE,
-            0,
-            "Distances\n4\n0 0 -\n7 2 2\n1 1 0\n12 3 1\n",
+            LOWERED_TWICE_TREE,
         ),
-        (["cover", "g"].as_slice(), NOTHING, 0, "Cover\n0\n"),
+        (["cover", "g"].as_slice(), NOTHING, "Cover\n0\n"),
         (
             ["cover", "g"].as_slice(),
             "AdjacencyGraph 2 0 0 0",
-            0,
             "Cover\n2\n- -\n- -\n",
         ),
-        (["cover", "g"].as_slice(), LOOP, 0, "Cover\n1\n0 0\n"),
-        (
-            ["cover", "g"].as_slice(),
-            TWO_SETS,
-            0,
-            "Cover\n5\n0 -\n0 -\n- 0\n- 0\n- 1\n",
-        ),
-        (
-            ["cover", "g"].as_slice(),
-            OVERLAPPING,
-            0,
-            "Cover\n9\n0 -\n1 -\n- -\n- -\n- 0\n- 0\n- 0\n- 0\n- 1\n",
-        ),
+        (["cover", "g"].as_slice(), LOOP, "Cover\n1\n0 0\n"),
+        (["cover", "g"].as_slice(), TWO_SETS, TWO_SETS_COVER),
+        (["cover", "g"].as_slice(), OVERLAPPING, OVERLAPPING_COVER),
         (
             ["cover", "g", "--bare"].as_slice(),
             OVERLAPPING,
-            0,
             "-\n-\n-\n-\n0\n0\n0\n0\n1\n",
         ),
         (
             ["demo", "kcore", "--n", "1", "--pairs", "3", "--seed", "7"].as_slice(),
             "",
-            0,
             "kcore n 1 m 6 max 6 top 1\n",
         ),
         (
             ["demo", "wbfs", "--n", "5", "--pairs", "0", "--seed", "0"].as_slice(),
             "",
-            0,
             "wbfs n 5 m 0 reached 1 max 0\n",
         ),
         (
             ["demo", "cover", "--n", "1", "--pairs", "3", "--seed", "7"].as_slice(),
             "",
-            0,
             "cover n 1 m 6 chosen 1 covered 1\n",
         ),
     ] {
-        let outcome = outcome_of(&rt, rt.alloc(), &trial_of(words, &[("g", file)]))?;
-        assert_eq!(rt; outcome.status.code(), code, "{text}");
-        assert_eq!(rt; outcome.out.as_slice(), text.as_bytes(), "{text}");
+        expect_answer(&rt, rt.alloc(), &trial_of(words, file, ""), 0, text, "")?;
     }
     Ok(())
 }
@@ -436,7 +274,7 @@ impl Gate for CountGate {
 fn passes_of<R: Threads + Sync>(
     rt: &R,
     alloc: Global,
-    trial: &Trial<'_>,
+    trial: &Trial<'_, '_, '_>,
 ) -> Result<u64, AllocError> {
     let gate = CountGate {
         passes: AtomicU64::new(0),
@@ -464,8 +302,7 @@ fn the_engines_work_through_the_pool(rt: HostRuntime) -> Result<(), Fail> {
             3,
         ),
     ] {
-        let files = [("g", file)];
-        let passes = passes_of(&rt, rt.alloc(), &trial_of(words, &files))?;
+        let passes = passes_of(&rt, rt.alloc(), &trial_of(words, file, ""))?;
         assert!(rt; passes >= least, "{file}");
     }
     Ok(())
@@ -476,27 +313,13 @@ fn trees_are_made_for_whole_texts_alone(rt: HostRuntime) -> Result<(), Fail> {
     let words = [
         "delta",
         "g",
-        "--delta",
-        "10",
-        "--workers",
-        "2",
-        "--chunk",
-        "1",
+        "--delta=10",
+        "--workers=2",
+        "--chunk=1",
         "--bare",
     ];
-    let files = [("g", LOWERED_TWICE)];
-    let bare = passes_of(&rt, rt.alloc(), &trial_of(&words, &files))?;
-    let words = [
-        "delta",
-        "g",
-        "--delta",
-        "10",
-        "--workers",
-        "2",
-        "--chunk",
-        "1",
-    ];
-    let whole = passes_of(&rt, rt.alloc(), &trial_of(&words, &files))?;
+    let bare = passes_of(&rt, rt.alloc(), &trial_of(&words, LOWERED_TWICE, ""))?;
+    let whole = passes_of(&rt, rt.alloc(), &trial_of(&words[..5], LOWERED_TWICE, ""))?;
     assert!(rt; whole >= bare && whole - bare >= 3);
     Ok(())
 }
@@ -506,14 +329,10 @@ fn a_large_demo_works_through_the_pool(rt: HostRuntime) -> Result<(), Fail> {
     let words = [
         "demo", "kcore", "--n", "100000", "--pairs", "500000", "--seed", "7", "--chunk", "1",
     ];
-    let files = [("g", LOOP)];
-    let trial = trial_of(&words, &files);
+    let trial = trial_of(&words, LOOP, "");
     let passes = passes_of(&rt, rt.alloc(), &trial)?;
     assert!(rt; passes >= 90_000);
-    let outcome = outcome_of(&rt, rt.alloc(), &trial)?;
-    assert_eq!(rt;
-        outcome.out.as_slice(),
-        b"kcore n 100000 m 1000000 max 7 top 74449\n".as_slice()
-    );
+    let line = "kcore n 100000 m 1000000 max 7 top 74449\n";
+    expect_answer(&rt, rt.alloc(), &trial, 0, line, "")?;
     Ok(())
 }

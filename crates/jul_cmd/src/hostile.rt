@@ -1,0 +1,323 @@
+//! Objects that fail at each of their calls in turn, files that are cut, workers that are held, and long numbers.
+use crate::trials::{
+    FAR, LOWERED_TWICE, LOWERED_TWICE_TREE, ONE_WAY, OVERLAPPING, OVERLAPPING_COVER, READ_MOST,
+    TRIANGLE, TRIANGLE_CORES, TWO_SETS, TWO_SETS_COVER, TWO_TRIANGLES, TWO_TRIANGLES_CORES,
+    TWO_WAYS, TWO_WAYS_TREE, Trial, expect_answer, outcome_of, outcome_with, trial_of,
+};
+use crate::{Status, Which};
+use jul_base::Gate;
+use std::alloc::{AllocError, Global};
+use std::process::Abort;
+use std::sync::atomic::{AtomicU64, Ordering};
+use std::test::Fail;
+use std::thread;
+use std::thread::Threads;
+
+/// A task on a graph file, perhaps with a witness file, and the whole text that it writes.
+#[derive(Clone, Copy)]
+struct Row<'a> {
+    words: &'a [&'a str],
+    graph: &'a str,
+    witness: &'a str,
+    text: &'a str,
+    /// So many calls of the shelf read its files.
+    calls: u64,
+}
+
+const ROWS: [Row<'static>; 4] = [
+    Row {
+        words: &["kcore", "g"],
+        graph: TRIANGLE,
+        witness: "",
+        text: TRIANGLE_CORES,
+        calls: 11,
+    },
+    Row {
+        words: &["wbfs", "g", "--source", "0"],
+        graph: TWO_WAYS,
+        witness: "",
+        text: TWO_WAYS_TREE,
+        calls: 12,
+    },
+    Row {
+        words: &["cover", "g"],
+        graph: TWO_SETS,
+        witness: "",
+        text: TWO_SETS_COVER,
+        calls: 10,
+    },
+    Row {
+        words: &["check", "g", "w"],
+        graph: TRIANGLE,
+        witness: TRIANGLE_CORES,
+        text: "yes\n",
+        calls: 18,
+    },
+];
+
+/// More calls than any of the rows makes.
+const MANY_CALLS: u64 = 100;
+
+// So many calls open a file of this text and read it to its end.
+fn calls_of(text: &str) -> u64 {
+    (text.len().div_ceil(READ_MOST) as u64).saturating_add(2)
+}
+
+/// Ends the test where a call of the shelf that fails isn't told, with the file that is being read.
+fn expect_read_faults<R: Threads + Sync + Abort>(
+    rt: &R,
+    alloc: Global,
+    row: &Row<'_>,
+) -> Result<(), AllocError> {
+    let mut trial = trial_of(row.words, row.graph, row.witness);
+    for call in 1..MANY_CALLS {
+        trial.read_fails = call;
+        let outcome = outcome_of(rt, alloc, &trial)?;
+        if outcome.status == Status::Done {
+            assert_eq!(rt; outcome.out.as_slice(), row.text.as_bytes());
+            assert_eq!(rt; call - 1, row.calls, "{call}");
+            return Ok(());
+        }
+        let (file, line) = if call <= calls_of(row.graph) {
+            (Which::Graph, "read fault: graph\n")
+        } else {
+            (Which::Witness, "read fault: witness\n")
+        };
+        assert_eq!(rt; outcome.status, Status::ReadFault { file }, "{call}");
+        assert_eq!(rt; outcome.out.len(), 0, "{call}");
+        assert_eq!(rt; outcome.err.as_slice(), line.as_bytes(), "{call}");
+    }
+    assert!(rt; false, "no run of {MANY_CALLS} comes to its end");
+    Ok(())
+}
+
+#[test]
+fn each_failing_read_is_told(rt: HostRuntime) -> Result<(), Fail> {
+    for row in ROWS {
+        expect_read_faults(&rt, rt.alloc(), &row)?;
+    }
+    Ok(())
+}
+
+/// Ends the test where a write of the answer that fails isn't told, or where other bytes stand before it.
+fn expect_write_faults<R: Threads + Sync + Abort>(
+    rt: &R,
+    alloc: Global,
+    row: &Row<'_>,
+) -> Result<(), AllocError> {
+    let mut trial = trial_of(row.words, row.graph, row.witness);
+    trial.write_most = 3;
+    for call in 1..MANY_CALLS {
+        trial.write_fails = call;
+        let outcome = outcome_of(rt, alloc, &trial)?;
+        let out = outcome.out.as_slice();
+        if outcome.status == Status::Done {
+            assert_eq!(rt; out, row.text.as_bytes());
+            return Ok(());
+        }
+        assert_eq!(rt; outcome.status, Status::WriteFault, "{call}");
+        assert_eq!(rt; out.len() as u64, 3 * (call - 1), "{call}");
+        assert!(rt;
+            out.len() < row.text.len() && row.text.as_bytes().starts_with(out),
+            "{call}"
+        );
+        assert_eq!(rt;
+            outcome.err.as_slice(),
+            b"write fault\n".as_slice(),
+            "{call}"
+        );
+    }
+    assert!(rt; false, "no run of {MANY_CALLS} comes to its end");
+    Ok(())
+}
+
+#[test]
+fn each_failing_write_is_told(rt: HostRuntime) -> Result<(), Fail> {
+    for row in ROWS {
+        expect_write_faults(&rt, rt.alloc(), &row)?;
+    }
+    Ok(())
+}
+
+#[test]
+fn other_failing_objects_are_told(rt: HostRuntime) -> Result<(), Fail> {
+    let cores = trial_of(&["kcore", "g"], TRIANGLE, "");
+    let missing = trial_of(&["kcore", "x"], TRIANGLE, "");
+    let one_way = trial_of(&["kcore", "g"], ONE_WAY, "");
+    let full = Trial {
+        write_most: 1,
+        room: 10,
+        ..cores
+    };
+    let unwritten = Trial {
+        write_fails: 2,
+        ..cores
+    };
+    let silent = Trial {
+        message_fails: 1,
+        ..unwritten
+    };
+    let unheard = Trial {
+        message_fails: 1,
+        ..one_way
+    };
+    for (trial, code, out, err) in [
+        (missing, 5, "", "read fault: graph\n"),
+        (full, 6, "Cores\n4\n2 ", "write fault\n"),
+        (unwritten, 6, "Core", "write fault\n"),
+        (silent, 6, "Core", ""),
+        (one_way, 4, "", "asymmetric at place 0\n"),
+        (unheard, 4, "", ""),
+    ] {
+        expect_answer(&rt, rt.alloc(), &trial, code, out, err)?;
+    }
+    Ok(())
+}
+
+/// Ends the test where a file that ends behind so many tokens isn't refused as cut there.
+fn expect_truncated<R: Threads + Sync + Abort>(
+    rt: &R,
+    alloc: Global,
+    trial: &Trial<'_, '_, '_>,
+    file: &str,
+    token: usize,
+    at: usize,
+) -> Result<(), AllocError> {
+    let line = format!(in alloc; "{file}: Truncated at token {token}, byte {at}\n")?;
+    expect_answer(rt, alloc, trial, 3, "", line.as_str())
+}
+
+/// Ends the test where one of the cuts of a text, with a space between each two tokens, isn't refused.
+fn expect_cuts<'w, R: Threads + Sync + Abort>(
+    rt: &R,
+    alloc: Global,
+    words: &'w [&'w str],
+    file: Which,
+    text: &str,
+) -> Result<(), AllocError> {
+    let mut cut = String::new(alloc);
+    for (token, word) in text.split_whitespace().enumerate() {
+        let at = cut.len();
+        match file {
+            Which::Graph => {
+                let trial = trial_of(words, cut.as_str(), TRIANGLE_CORES);
+                expect_truncated(rt, alloc, &trial, "graph", token, at)?;
+            }
+            Which::Witness => {
+                let trial = trial_of(words, TRIANGLE, cut.as_str());
+                expect_truncated(rt, alloc, &trial, "witness", token, at)?;
+            }
+        }
+        if token > 0 {
+            cut.push_str(" ")?;
+        }
+        cut.push_str(word)?;
+    }
+    Ok(())
+}
+
+#[test]
+fn each_cut_of_a_file_is_told(rt: HostRuntime) -> Result<(), Fail> {
+    for (words, file, text) in [
+        (["kcore", "g"].as_slice(), Which::Graph, TRIANGLE),
+        (["wbfs", "g"].as_slice(), Which::Graph, TWO_WAYS),
+        (["cover", "g"].as_slice(), Which::Graph, FAR),
+        (["check", "g", "w"].as_slice(), Which::Graph, TRIANGLE),
+        (
+            ["check", "g", "w"].as_slice(),
+            Which::Witness,
+            TRIANGLE_CORES,
+        ),
+    ] {
+        expect_cuts(&rt, rt.alloc(), words, file, text)?;
+    }
+    Ok(())
+}
+
+/// So many turns a held worker waits in all.
+const TURNS: u64 = 1000;
+
+/// Holds the workers below a number for the first turns.
+#[derive(Drop)]
+struct HoldGate {
+    held: u32,
+    turns: AtomicU64,
+}
+
+impl Gate for HoldGate {
+    fn pass(&self, worker: u32, _chunk: u32) {
+        if worker >= self.held {
+            return;
+        }
+        for _ in 0..TURNS {
+            if self.turns.fetch_add(1, Ordering::SeqCst) >= TURNS {
+                return;
+            }
+            thread::yield_now();
+        }
+    }
+}
+
+/// Ends the test where workers below a number that are held change the text of a task.
+fn expect_unchanged<R: Threads + Sync + Abort>(
+    rt: &R,
+    alloc: Global,
+    trial: &Trial<'_, '_, '_>,
+    held: u32,
+    text: &str,
+) -> Result<(), AllocError> {
+    let gate = HoldGate {
+        held,
+        turns: AtomicU64::new(0),
+    };
+    let outcome = outcome_with(rt, alloc, trial, &gate)?;
+    assert_eq!(rt; outcome.status, Status::Done, "{text}");
+    assert_eq!(rt; outcome.out.as_slice(), text.as_bytes(), "{held}");
+    Ok(())
+}
+
+// Worker 0, and every worker but the last. The rounds of the files are so small that worker 0 runs them alone,
+// whatever the words say; those of the demos aren't.
+#[test]
+fn held_workers_change_nothing(rt: HostRuntime) -> Result<(), Fail> {
+    let alloc = rt.alloc();
+    let (n, pairs, seed) = ("--n=20000", "--pairs=60000", "--seed=7");
+    for (workers, held) in [
+        ("--workers=1", 1),
+        ("--workers=2", 1),
+        ("--workers=7", 1),
+        ("--workers=7", 6),
+    ] {
+        let words = ["delta", "g", "--delta=10", "--chunk=1", workers];
+        let trial = trial_of(&words, LOWERED_TWICE, "");
+        expect_unchanged(&rt, alloc, &trial, held, LOWERED_TWICE_TREE)?;
+        let words = ["kcore", "g", "--chunk=1", workers];
+        let trial = trial_of(&words, TWO_TRIANGLES, "");
+        expect_unchanged(&rt, alloc, &trial, held, TWO_TRIANGLES_CORES)?;
+        let words = ["cover", "g", "--chunk=1", workers];
+        let trial = trial_of(&words, OVERLAPPING, "");
+        expect_unchanged(&rt, alloc, &trial, held, OVERLAPPING_COVER)?;
+        let words = ["demo", "delta", n, pairs, seed, "--delta=10", workers];
+        let line = "delta n 20000 m 120000 reached 19956 max 329\n";
+        expect_unchanged(&rt, alloc, &trial_of(&words, "", ""), held, line)?;
+        let words = ["demo", "kcore", n, pairs, seed, workers];
+        let line = "kcore n 20000 m 120000 max 4 top 15774\n";
+        expect_unchanged(&rt, alloc, &trial_of(&words, "", ""), held, line)?;
+        let words = ["demo", "cover", n, pairs, seed, workers];
+        let line = "cover n 20000 m 120000 chosen 5097 covered 19956\n";
+        expect_unchanged(&rt, alloc, &trial_of(&words, "", ""), held, line)?;
+    }
+    Ok(())
+}
+
+#[test]
+fn a_weight_may_have_many_zeros(rt: HostRuntime) -> Result<(), Fail> {
+    let mut text = String::from_str(rt.alloc(), "WeightedAdjacencyGraph 2 1 0 1 1 ")?;
+    for _ in 0..100_000 {
+        text.push_str("0000000000")?;
+    }
+    text.push_str("7")?;
+    let trial = trial_of(&["wbfs", "g", "--bare"], text.as_str(), "");
+    expect_answer(&rt, rt.alloc(), &trial, 0, "0\n7\n", "")?;
+    Ok(())
+}
