@@ -83,7 +83,7 @@ pub fn cover<R: Threads + Sync, G: Gate>(
     let n = sets.n() as usize;
     let mut round = vec![in alloc; NONE; n]?;
     let mut by = vec![in alloc; NONE; n]?;
-    let mut open = vec![in alloc; true; n]?;
+    let mut marks = vec![in alloc; true; n]?;
     let mut packs = packed_sets(alloc, sets)?;
     let at = Standing {
         round: 0,
@@ -101,7 +101,7 @@ pub fn cover<R: Threads + Sync, G: Gate>(
         at,
         round.as_mut_slice(),
         by.as_mut_slice(),
-        open.as_mut_slice(),
+        marks.as_mut_slice(),
         buckets,
     )?;
     Ok(CoverOut {

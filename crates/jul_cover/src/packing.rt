@@ -61,23 +61,23 @@ pub(crate) fn size_of(p: &PackedSets, s: u32) -> usize
 }
 
 /// Packs each of these sets down to the elements that nothing covers, by their marks.
-pub(crate) fn pack_each(p: &mut PackedSets, listed: &[u32], open: &[bool], by: &[u64])
+pub(crate) fn pack_each(p: &mut PackedSets, listed: &[u32], marks: &[bool], by: &[u64])
     requires packed { ArePacked p.old }
-    requires open { AreOpen open.now by.now }
+    requires marks { AreOpen marks.now by.now }
     requires by { length by.now ≡ p.old.n }
     requires in_range { All (λ s. s < p.old.n) listed.now }
 
     ensures { HasPacked by.now listed.now p.old p.new }
 {
     for s in listed {
-        pack_one(p, *s, open, by);
+        pack_one(p, *s, marks, by);
     }
 }
 
 /// Packs a set down to the elements that nothing covers.
-fn pack_one(p: &mut PackedSets, s: u32, open: &[bool], by: &[u64])
+fn pack_one(p: &mut PackedSets, s: u32, marks: &[bool], by: &[u64])
     requires packed { ArePacked p.old }
-    requires open { AreOpen open.now by.now }
+    requires marks { AreOpen marks.now by.now }
     requires by { length by.now ≡ p.old.n }
     requires in_range { s < p.old.n }
 
@@ -88,14 +88,14 @@ fn pack_one(p: &mut PackedSets, s: u32, open: &[bool], by: &[u64])
 {
     let start = p.starts[s as usize];
     let end = start + p.lens[s as usize];
-    let kept = keep_part(p.items.as_mut_slice(), start, end, open, by);
+    let kept = keep_part(p.items.as_mut_slice(), start, end, marks, by);
     p.lens[s as usize] = kept;
 }
 
 /// Moves the elements from `start` to `end` that nothing covers to the front of that part, in order, and tells how many they
 /// are.
-fn keep_part(items: &mut [u32], start: usize, end: usize, open: &[bool], by: &[u64]) -> usize
-    requires open { AreOpen open.now by.now }
+fn keep_part(items: &mut [u32], start: usize, end: usize, marks: &[bool], by: &[u64]) -> usize
+    requires marks { AreOpen marks.now by.now }
     requires ordered { start ≤ end }
     requires inside { end ≤ length items.old }
     requires within { All (λ e. e < length by.now) (take (end - start) (drop start items.old)) }
@@ -106,14 +106,14 @@ fn keep_part(items: &mut [u32], start: usize, end: usize, open: &[bool], by: &[u
     ensures front { take result (drop start items.new)
         ≡ filter (is_open by.now) (take (end - start) (drop start items.old)) }
 {
-    keep_open(&mut items[start..end], open, by)
+    keep_open(&mut items[start..end], marks, by)
 }
 
 /// Moves the elements that nothing covers to the front, in order, and tells how many they are.
 ///
 /// The marks are read, and `by` says what they mean.
-fn keep_open(elements: &mut [u32], open: &[bool], by: &[u64]) -> usize
-    requires open { AreOpen open.now by.now }
+fn keep_open(elements: &mut [u32], marks: &[bool], by: &[u64]) -> usize
+    requires marks { AreOpen marks.now by.now }
     requires within { All (λ e. e < length by.now) elements.old }
 
     ensures few { result ≤ length elements.old }
@@ -124,7 +124,7 @@ fn keep_open(elements: &mut [u32], open: &[bool], by: &[u64]) -> usize
     for i in 0..elements.len() {
         let e = elements[i];
         elements[kept] = e;
-        kept += usize::from(open[e as usize]);
+        kept += usize::from(marks[e as usize]);
     }
     kept
 }

@@ -26,12 +26,12 @@ pub(crate) fn cover_rounds<R: Threads + Sync, G: Gate>(
     at: Standing,
     round: &mut [u64],
     by: &mut [u64],
-    open: &mut [bool],
+    marks: &mut [bool],
     buckets: &mut Buckets,
 ) -> Result<Standing, AllocError>
     requires covering { IsCovering sets.now bids.now owners.now at.bids.home at.owners.home packs.old round.old by.old
         (record { round = at.round; bids = at.bids; owners = at.owners }) buckets.old }
-    requires open { AreOpen open.old by.old }
+    requires marks { AreOpen marks.old by.old }
 
     ensures covering { IfOk result (λ r. IsCovering sets.now bids.now owners.now at.bids.home at.owners.home
         packs.new round.new by.new (record { round = r.round; bids = r.bids; owners = r.owners }) buckets.new) }
@@ -44,7 +44,7 @@ pub(crate) fn cover_rounds<R: Threads + Sync, G: Gate>(
             return Ok(at);
         };
         at = take_turn(
-            rt, alloc, team, packs, drawn, bucket, bids, owners, at, round, by, open, buckets,
+            rt, alloc, team, packs, drawn, bucket, bids, owners, at, round, by, marks, buckets,
         )?;
     }
 }

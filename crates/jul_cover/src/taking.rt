@@ -22,23 +22,23 @@ pub(crate) fn take_chosen(
     seat: &mut MinSeat,
     round: &mut [u64],
     by: &mut [u64],
-    open: &mut [bool],
+    marks: &mut [bool],
 )
     requires packed { ArePacked packs.now }
     requires in_range { All (λ s. s < packs.now.n) chosen.now }
     requires root { IsRootOf packs.now.n words.now seat.old }
     requires round { length round.old ≡ packs.now.n }
     requires by { length by.old ≡ packs.now.n }
-    requires open { AreOpen open.old by.old }
+    requires marks { AreOpen marks.old by.old }
 
     ensures same { seat.new ≡ seat.old }
     ensures round { AreWritten chosen.now (λ _. t) round.old round.new }
     ensures by { AreWritten (flat_map (pack_at packs.now) chosen.now) (word_of seat.old) by.old by.new }
-    ensures open { AreOpen open.new by.new }
+    ensures marks { AreOpen marks.new by.new }
 {
     for s in chosen {
         round[*s as usize] = t;
-        take_words(pack_of(packs, *s), words, seat, by, open);
+        take_words(pack_of(packs, *s), words, seat, by, marks);
     }
 }
 
@@ -48,21 +48,21 @@ fn take_words(
     words: &MinWords,
     seat: &mut MinSeat,
     by: &mut [u64],
-    open: &mut [bool],
+    marks: &mut [bool],
 )
     requires table { IsSeatOf words.now seat.old }
     requires alone { IsAlone seat.old }
     requires words { All (λ e. e < length seat.old.home.starts) elements.now }
     requires by { All (λ e. e < length by.old) elements.now }
-    requires open { AreOpen open.old by.old }
+    requires marks { AreOpen marks.old by.old }
 
     ensures same { seat.new ≡ seat.old }
     ensures by { AreWritten elements.now (word_of seat.old) by.old by.new }
-    ensures open { AreOpen open.new by.new }
+    ensures marks { AreOpen marks.new by.new }
 {
     for e in elements {
         let word = words.load(seat, *e);
         by[*e as usize] = word;
-        open[*e as usize] = word == NONE;
+        marks[*e as usize] = word == NONE;
     }
 }

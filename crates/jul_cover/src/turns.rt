@@ -58,24 +58,24 @@ pub(crate) fn take_turn<R: Threads + Sync, G: Gate>(
     at: Standing,
     round: &mut [u64],
     by: &mut [u64],
-    open: &mut [bool],
+    marks: &mut [bool],
     buckets: &mut Buckets,
 ) -> Result<Standing, AllocError>
     requires can { CanTurn bids.now owners.now bucket drawn.items packs.old round.old by.old
         (record { round = at.round; bids = at.bids; owners = at.owners }) buckets.old }
-    requires open { AreOpen open.old by.old }
+    requires marks { AreOpen marks.old by.old }
 
     ensures turned { IfOk result (λ r. HasTurned bucket drawn.items packs.old packs.new round.old by.old round.new by.new
         (record { round = at.round; bids = at.bids; owners = at.owners })
         (record { round = r.round; bids = r.bids; owners = r.owners }) buckets.old buckets.new) }
-    ensures open { IfOk result (λ _. AreOpen open.new by.new) }
+    ensures marks { IfOk result (λ _. AreOpen marks.new by.new) }
 {
     let Standing {
         round: t,
         bids: bid_seat,
         owners: owner_seat,
     } = at;
-    pack_each(packs, drawn.as_slice(), open, by);
+    pack_each(packs, drawn.as_slice(), marks, by);
     let active = active_sets(alloc, packs, drawn.as_slice(), bucket)?;
     let next = round_after(t, active.as_slice());
     let chosen = choose(rt, alloc, team, packs, active, bucket, t, bids, bid_seat)?;
@@ -90,7 +90,7 @@ pub(crate) fn take_turn<R: Threads + Sync, G: Gate>(
         owner_seat,
         round,
         by,
-        open,
+        marks,
     )?;
     let moves = moves_after(rt, alloc, team, drawn.as_slice(), packs, round, buckets)?;
     buckets.update_buckets(moves.as_slice())?;
@@ -155,7 +155,7 @@ fn give<R: Threads + Sync, G: Gate>(
     seat: MinSeat,
     round: &mut [u64],
     by: &mut [u64],
-    open: &mut [bool],
+    marks: &mut [bool],
 ) -> Result<MinSeat, AllocError>
     requires packed { ArePacked packs.now }
     requires increasing { IsStrictlyIncreasing chosen.items }
@@ -163,13 +163,13 @@ fn give<R: Threads + Sync, G: Gate>(
     requires root { IsRootOf packs.now.n words.now seat }
     requires round { length round.old ≡ packs.now.n }
     requires by { length by.old ≡ packs.now.n }
-    requires open { AreOpen open.old by.old }
+    requires marks { AreOpen marks.old by.old }
 
     ensures offered { IfOk result (λ r. HasOffered chosen.items (pack_at packs.now) 0 seat r) }
     ensures round { IfOk result (λ _. AreWritten chosen.items (λ _. t) round.old round.new) }
     ensures by { IfOk result (λ r.
         AreWritten (flat_map (pack_at packs.now) chosen.items) (word_of r) by.old by.new) }
-    ensures open { IfOk result (λ _. AreOpen open.new by.new) }
+    ensures marks { IfOk result (λ _. AreOpen marks.new by.new) }
 {
     let work = work_of(packs, chosen.as_slice());
     let members = VertexSubset::from_increasing(alloc, packs.n, chosen);
@@ -177,6 +177,6 @@ fn give<R: Threads + Sync, G: Gate>(
     let Some(chosen) = members.as_slice() else {
         unreachable!()
     };
-    take_chosen(packs, chosen, t, words, &mut seat, round, by, open);
+    take_chosen(packs, chosen, t, words, &mut seat, round, by, marks);
     Ok(seat)
 }

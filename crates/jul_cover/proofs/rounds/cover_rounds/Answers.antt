@@ -28,5 +28,5 @@ rounds-preserved g c =
       still_covering c.args.sets.now c.n.ensures.sets few c.args.bids.now c.args.owners.now c.args.at.bids.home c.args.at.owners.home c.rounds.packs c.rounds.round c.rounds.by at c.rounds.buckets c.rounds.invariant.0
           c.in-Some.bucket c.in-Some.drawn.items c.next_bucket.new.self (drawn_at c.rounds.buckets c.next_bucket.new.self c.in_ok-bucket.field-0 c.in-Some.bucket c.in-Some.drawn c.in-Some.is c.in_ok-bucket.ensures.drawn)
           c.take_turn.new.packs c.take_turn.new.round c.take_turn.new.by after c.take_turn.new.buckets c.in_ok-at.ensures.turned,
-      c.in_ok-at.ensures.open,
+      c.in_ok-at.ensures.marks,
     )

@@ -5,7 +5,7 @@ use Rattle.jul_cover.proofs.rounds.cover_rounds.Given as goal
 abbrev pub invariant-rounds : goal.invariant-rounds
 invariant-rounds g l =
     IsCovering l.sets l.bids l.owners l.fn.at.bids.home l.fn.at.owners.home l.packs l.round l.by (record { round = l.at.round; bids = l.at.bids; owners = l.at.owners }) l.buckets
-    × AreOpen l.open l.by
+    × AreOpen l.marks l.by
 
 abbrev pub decreases-rounds : goal.decreases-rounds
 decreases-rounds g l = remaining l.buckets.places

@@ -13,5 +13,5 @@ loop-s-preserved c =
       written_more (λ (x : ℕ). c.args.t) c.args.chosen.now c.args.round.now c.loop-s.round c.loop-s.s-index c.args.t c.loop-s-test.true in_range refl c.loop-s.invariant.1,
       written_list (word_of c.args.seat.now) (pack_at c.args.packs.now) c.args.chosen.now c.pack_of.result.now c.args.by.now c.loop-s.by c.take_words.new.by c.loop-s.s-index c.loop-s-test.true
           c.pack_of.ensures.pack c.loop-s.invariant.2 (subst (λ (s : Seat). AreWritten c.pack_of.result.now (word_of s) c.loop-s.by c.take_words.new.by) c.loop-s.invariant.0 c.take_words.ensures.by),
-      c.take_words.ensures.open,
+      c.take_words.ensures.marks,
     )

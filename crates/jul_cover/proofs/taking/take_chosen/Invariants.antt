@@ -10,4 +10,4 @@ invariant-loop-s l =
     (l.seat ≡ l.fn.seat)
     × AreWritten (take l.s-index l.chosen) (λ _. l.t) l.fn.round l.round
     × AreWritten (flat_map (pack_at l.packs) (take l.s-index l.chosen)) (word_of l.fn.seat) l.fn.by l.by
-    × AreOpen l.open l.by
+    × AreOpen l.marks l.by
