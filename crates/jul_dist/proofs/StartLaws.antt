@@ -3,7 +3,7 @@ use Rattle.std.proofs.Common.{◌≡◌, ◌≢◌, ℕ, ◌+◌, ◌/◌, ◌<�
 use Rattle.std.specs.Prelude.{Contains}
 use Rattle.std.specs.List.{All}
 use Rattle.std.proofs.lemmas.Bool.{cases_eq}
-use Rattle.std.proofs.lemmas.List.{length-replicate, length-set, take_more, take_all, get_or-replicate, get_or-set_same, get_or-set_other}
+use Rattle.std.proofs.lemmas.List.{length-set, take_more, take_all, get_or-replicate, get_or-set_same, get_or-set_other}
 use Rattle.std.proofs.lemmas.List.Elements.{All-nil, All-contains, Contains-append_left, Contains-push, Contains-push_cases, All-weaker}
 use Rattle.jul_base.specs.declared.graphs.RawGraph.{RawGraph}
 use Rattle.jul_base.specs.declared.limits.TheConstants.{NONE}
@@ -15,7 +15,7 @@ use Rattle.jul_base.specs.Logs.{Home, Entry}
 use Rattle.jul_base.proofs.SourceLaws.{length-first, first_source, first_some, first_is}
 use Rattle.jul_base.proofs.DistanceListLaws.{distance_list-is}
 use Rattle.jul_base.proofs.CappedLaws.{first_floors}
-use Rattle.jul_words.specs.Seats.{Seat, AreFloorsOf, rooted, zeros}
+use Rattle.jul_words.specs.Seats.{Seat, AreFloorsOf, rooted}
 use Rattle.jul_edge.specs.EdgeMaps.{CanStamp}
 use Rattle.jul_bucket.specs.declared.orders.Order.TheVariants.{Increasing}
 use Rattle.jul_bucket.specs.declared.draws.Draw.{Draw}

@@ -1,4 +1,4 @@
-use Rattle.std.proofs.Common.{◌∙◌, ◌*◌, ◌≤◌, arith}
+use Rattle.std.proofs.Common.{◌*◌, ◌≤◌, arith}
 use Rattle.jul_dist.specs.declared.limits.TheConstants.{MAX_SUM}
 use Rattle.jul_dist.proofs.SearchLaws.{small, drawn_at, from_in, from_few, ahead_at, floors_at, can_go_at, moves_in_at, moves_ahead_at, fewer_at, next_at}
 use Rattle.jul_dist.proofs.searching.search.Goals as goal
