@@ -1,6 +1,6 @@
 -- Results that are written whole: they can be written, and a check accepts them.
-use Rattle.std.proofs.Common.{◌≡◌, ◌≢◌, ℕ, ◌<◌, ◌≤◌, ◌^◌, List, [], ◌∷◌, length, get_or, Option, Some, None, Result, Ok, refl, sym, ◌∙◌, subst, ap, arith, inl, inr, MatchOption}
-use Rattle.std.specs.Prelude.{Contains, codes}
+use Rattle.std.proofs.Common.{◌≡◌, ◌≢◌, ℕ, ◌<◌, ◌≤◌, List, [], ◌∷◌, get_or, Option, Some, None, Result, Ok, refl, sym, ◌∙◌, subst, ap, arith, inl, inr, MatchOption}
+use Rattle.std.specs.Prelude.{codes}
 use Rattle.std.specs.List.{All}
 use Rattle.std.proofs.lemmas.Bool.{cases_lt, cond-true, cond-false, lt-ltb, le-ltb}
 use Rattle.std.proofs.lemmas.Bool.Decides.{Decides-eqb}
@@ -13,8 +13,7 @@ use Rattle.jul_base.specs.declared.results.Cover.{Cover}
 use Rattle.jul_base.specs.Sets.{sets_of}
 use Rattle.jul_base.specs.CoverRounds.{IsCover}
 use Rattle.jul_base.proofs.SetLaws.{length-sets_of}
-use Rattle.jul_base.specs.Numbers.{IsColumn}
-use Rattle.jul_base.specs.Graph.{vertices, target, count, IsLawful, IsPlaceOf}
+use Rattle.jul_base.specs.Graph.{vertices, target, count, IsLawful}
 use Rattle.jul_base.specs.Symmetry.{IsSymmetric, IsFirstAsymmetricPlace}
 use Rattle.jul_base.proofs.GraphLaws.{place_in_range, target_in_range}
 use Rattle.jul_base.specs.Coreness.{IsCoreness, inner_degree}
@@ -26,7 +25,6 @@ use Rattle.jul_core.proofs.StageLaws.{inner_degree-few, taken-is}
 use Rattle.jul_core.proofs.DrawLaws.{rounds-few}
 use Rattle.jul_witness.specs.declared.witnesses.Witness.{Witness}
 use Rattle.jul_witness.specs.declared.witnesses.Witness.TheVariants as results
-use Rattle.jul_witness.specs.declared.faults.WitnessFault.{WitnessFault as FaultOfWitness}
 use Rattle.jul_witness.specs.Lawful.{AreLawfulCores, AreLawfulDistances, IsLawfulCover}
 use Rattle.jul_witness.specs.Reading.{reads_witness}
 use Rattle.jul_witness.specs.Texts.{witness_text}
@@ -40,7 +38,7 @@ use Rattle.jul_cmd.specs.declared.statuses.Status.TheVariants.{Done, SourceRange
 use Rattle.jul_query.specs.Queries.{Problem, distances, cores, cover}
 use Rattle.jul_cmd.specs.Suited.{refusal_of_sources, IsSuited}
 use Rattle.jul_cmd.specs.Files.{witness_of_file}
-use Rattle.jul_cmd.specs.Checking.{size_of, judged, judged_file, verdict_text, IsTold}
+use Rattle.jul_cmd.specs.Checking.{size_of, judged, judged_file, IsTold}
 use Rattle.jul_cmd.specs.Solving.{IsResult, sources_of, IsAccepted, IsWholeText}
 use Rattle.jul_cmd.proofs.VerdictLaws.{judged-cores, judged-cover, judged-distances}
 

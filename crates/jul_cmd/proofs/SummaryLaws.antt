@@ -1,5 +1,5 @@
 -- The lines that sum results up.
-use Rattle.std.proofs.Common.{◌≡◌, ℕ, List, sym, ◌∙◌, ap}
+use Rattle.std.proofs.Common.{◌≡◌, ℕ, List, ◌∙◌, ap}
 use Rattle.std.specs.Prelude.{codes}
 use Rattle.jul_witness.specs.Summaries.{greatest, times_in, numbers_of, number_count, summary_line, distances_summary, cores_summary, cover_summary}
 

@@ -1,8 +1,9 @@
 -- What the parts of a run leave to the next one.
-use Rattle.std.specs.Prelude.{◌≡◌, ◌⊎◌, ℕ, ◌<◌, ◌≤◌, List, [], Result, Ok, Err}
+use Rattle.std.specs.Prelude.{◌≡◌, ◌⊎◌, ℕ, ◌<◌, ◌≤◌, List, [], Result, Ok, Err, Bool, IsTrue}
 use Rattle.jul_base.specs.declared.graphs.RawGraph.{RawGraph}
 use Rattle.jul_base.specs.Shelves.{ShelfState}
 use Rattle.jul_base.specs.Loading.{FailedLoading}
+use Rattle.jul_base.specs.Symmetry.{IsSymmetric}
 use Rattle.jul_witness.specs.declared.faults.WitnessFault.{WitnessFault as FaultOfWitness}
 use Rattle.jul_witness.specs.declared.witnesses.Witness.{Witness as AnyWitness}
 use Rattle.jul_witness.specs.Lawful.{IsLawful}
@@ -12,13 +13,17 @@ use Rattle.jul_cmd.specs.declared.statuses.Status.{Status}
 use Rattle.jul_cmd.specs.declared.statuses.Status.TheVariants.{GraphFault, WitnessFault, ReadFault, Memory}
 use Rattle.jul_cmd.specs.declared.statuses.Which.{Which}
 use Rattle.jul_cmd.specs.declared.statuses.Which.TheVariants.{Graph, Witness}
+use Rattle.jul_cmd.specs.declared.replies.Reply.{Reply}
 use Rattle.jul_cmd.specs.declared.replies.Text.{Text}
 use Rattle.jul_cmd.specs.declared.replies.Text.TheVariants.{Bare, Whole, Line}
 use Rattle.jul_cmd.specs.Statuses.{stage_of}
-use Rattle.jul_query.specs.Queries.{Input, graph_file, generated, Problem, Asked}
+use Rattle.jul_query.specs.declared.queries.Problem.{Problem as GivenProblem}
+use Rattle.jul_query.specs.Queries.{Input, graph_file, generated, Problem, Form, Asked}
+use Rattle.jul_query.specs.Ranges.{IsProblemInRange}
 use Rattle.jul_adj.specs.Generated.{generated as generated_graph}
 use Rattle.jul_cmd.specs.Files.{graph_of_file, witness_of_file, IsRead}
 use Rattle.jul_cmd.specs.Suited.{IsUnsuited}
+use Rattle.jul_cmd.specs.Solving.{IsDone}
 use Rattle.jul_cmd.specs.Checking.{IsJudged}
 use Rattle.jul_cmd.specs.Outcomes.{IsAnswer, FailedReading}
 
@@ -68,6 +73,20 @@ IsInputUnread (generated n pairs seed) shelf shelf' status = status ≡ Memory
 
 -- ---- the tasks
 
+abbrev pub text_of : Text → List ℕ
+text_of (Bare column) = bare_text column
+text_of (Whole result) = witness_text result
+text_of (Line line) = line
+
+-- a problem can be put to a graph: its numbers are in range, and where the graph is said to be symmetric, it is
+pub record IsPosed (g : RawGraph) (is_symmetric : Bool) (problem : GivenProblem) : Type 0 where
+  pub range : IsProblemInRange problem
+  pub symmetric : IsTrue is_symmetric → IsSymmetric g
+
+-- a reply has what a problem asks of a graph, in the form
+abbrev pub Solves : RawGraph → Problem → Form → Reply → Type 0
+Solves g problem form reply = IsDone g problem form reply.status (text_of reply.text)
+
 -- the graph isn't suited to the problem, or memory ran out
 abbrev pub IsUnsolved : RawGraph → Problem → Status → Type 0
 IsUnsolved g problem status = IsUnsuited g problem status ⊎ (status ≡ Memory)
@@ -89,11 +108,6 @@ IsUnchecked shelf shelf' g name sources status =
     (IsWitnessRefusal status × HasChecked shelf shelf' g name sources status []) ⊎ IsUnloaded Witness shelf shelf' name status
 
 -- ---- the whole
-
-abbrev pub text_of : Text → List ℕ
-text_of (Bare column) = bare_text column
-text_of (Whole result) = witness_text result
-text_of (Line line) = line
 
 -- the columns of a result can be written
 abbrev pub IsWritable : Text → Type 0

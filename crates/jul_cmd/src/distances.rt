@@ -57,7 +57,8 @@ pub fn find_tree<R: Threads + Sync, G: Gate>(
     requires { 1 ≤ delta }
 
     ensures suited { OnOk result (IsSuited rows.now (distances (source ∷ []))) }
-    ensures whole { IfOk result (λ found. IsResult rows.now (distances (source ∷ [])) (results.Distances found)) }
+    ensures whole { IfOk result (λ found.
+        IsResult rows.now (distances (source ∷ [])) (results.Distances found)) }
     ensures lawful { IfOk result AreLawfulDistances }
     ensures refused { IfErr result (IsUnsolved rows.now (distances (source ∷ []))) }
 {

@@ -28,7 +28,8 @@ fn load_text<F: Shelf>(alloc: Global, name: &str, files: &mut F) -> Result<Vec<u
     ensures ok { IfOk result (λ bytes.
         IsLoaded (F.state files.old) (F.state files.new) name.now bytes.items (MAX_BYTES + 1)) }
     ensures short { IfOk result (λ bytes. length bytes.items ≤ MAX_BYTES + 1) }
-    ensures refused { IfErr result (IsUnloaded which.Witness (F.state files.old) (F.state files.new) name.now) }
+    ensures refused { IfErr result
+        (IsUnloaded which.Witness (F.state files.old) (F.state files.new) name.now) }
 {
     match load_all(alloc, files, name, MAX_BYTES) {
         Ok(bytes) => Ok(bytes),
@@ -82,7 +83,8 @@ pub fn load_input<R: Threads + Sync, G: Gate, F: Shelf>(
     ensures rows { IfOk result (λ loaded.
         IsInputRead (input_of input.entry) (F.state files.old) (F.state files.new) loaded.rows) }
     ensures symmetric { IfOk result (λ loaded. IsTrue loaded.is_symmetric → IsSymmetric loaded.rows) }
-    ensures refused { IfErr result (IsInputUnread (input_of input.entry) (F.state files.old) (F.state files.new)) }
+    ensures refused { IfErr result
+        (IsInputUnread (input_of input.entry) (F.state files.old) (F.state files.new)) }
     ensures faults { (F.state files.old).faults ≤ (F.state files.new).faults }
 {
     match input {

@@ -28,11 +28,12 @@ fn find_reply<R: Threads + Sync, G: Gate, F: Shelf>(
 ) -> Result<Reply, Status>
     requires { IsInRange query }
 
-    ensures found { IfOk result (λ reply. IsAnswer (asked_by query.entry) (F.state files.old) (F.state files.new)
-        reply.status (text_of reply.text)) }
+    ensures found { IfOk result (λ reply. IsAnswer (asked_by query.entry)
+        (F.state files.old) (F.state files.new) reply.status (text_of reply.text)) }
     ensures given { IfOk result (λ reply. IsGiven reply.status) }
     ensures writable { IfOk result (λ reply. IsWritable reply.text) }
-    ensures refused { IfErr result (IsRefused (asked_by query.entry) (F.state files.old) (F.state files.new)) }
+    ensures refused { IfErr result
+        (IsRefused (asked_by query.entry) (F.state files.old) (F.state files.new)) }
 {
     let loaded = load_input(resources, query.input, files)?;
     let rows = &loaded.rows;

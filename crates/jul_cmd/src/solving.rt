@@ -1,13 +1,11 @@
 //! The tasks that solve a problem: a module each, which finds the columns of a result.
-ghost use Rattle.std.specs.Prelude.{IfOk, IfErr, OnOk, IsTrue};
-ghost use Rattle.jul_base.specs.Symmetry.{IsSymmetric};
+ghost use Rattle.std.specs.Prelude.{IfOk, IfErr, OnOk};
 ghost use Rattle.jul_witness.specs.Lawful.{IsLawful};
 ghost use Rattle.jul_query.specs.Queries.{whole, bare};
-ghost use Rattle.jul_query.specs.Ranges.{IsProblemInRange};
 ghost use Rattle.jul_query.specs.Asking.{problem_of, form_of};
 ghost use Rattle.jul_cmd.specs.Suited.{IsSuited};
-ghost use Rattle.jul_cmd.specs.Solving.{AreValues, IsResult, IsDone};
-ghost use Rattle.jul_cmd.specs.Parts.{text_of, IsWritable, IsUnsolved};
+ghost use Rattle.jul_cmd.specs.Solving.{AreValues, IsResult};
+ghost use Rattle.jul_cmd.specs.Parts.{IsPosed, Solves, IsWritable, IsUnsolved};
 
 use crate::cores::find_cores;
 use crate::covers::find_cover;
@@ -29,8 +27,7 @@ fn find_column<R: Threads + Sync, G: Gate>(
     is_symmetric: bool,
     problem: Problem,
 ) -> Result<Column, Status>
-    requires range { IsProblemInRange problem }
-    requires symmetric { IsTrue is_symmetric → IsSymmetric rows.now }
+    requires { IsPosed rows.now is_symmetric problem }
 
     ensures suited { OnOk result (IsSuited rows.now (problem_of problem)) }
     ensures found { IfOk result (AreValues rows.now (problem_of problem)) }
@@ -56,8 +53,7 @@ fn find_result<R: Threads + Sync, G: Gate>(
     is_symmetric: bool,
     problem: Problem,
 ) -> Result<Witness, Status>
-    requires range { IsProblemInRange problem }
-    requires symmetric { IsTrue is_symmetric → IsSymmetric rows.now }
+    requires { IsPosed rows.now is_symmetric problem }
 
     ensures suited { OnOk result (IsSuited rows.now (problem_of problem)) }
     ensures found { IfOk result (IsResult rows.now (problem_of problem)) }
@@ -87,11 +83,9 @@ fn solve_bare<R: Threads + Sync, G: Gate>(
     is_symmetric: bool,
     problem: Problem,
 ) -> Result<Reply, Status>
-    requires range { IsProblemInRange problem }
-    requires symmetric { IsTrue is_symmetric → IsSymmetric rows.now }
+    requires { IsPosed rows.now is_symmetric problem }
 
-    ensures done { IfOk result (λ reply.
-        IsDone rows.now (problem_of problem) bare reply.status (text_of reply.text)) }
+    ensures done { IfOk result (Solves rows.now (problem_of problem) bare) }
     ensures writable { IfOk result (λ reply. IsWritable reply.text) }
     ensures refused { IfErr result (IsUnsolved rows.now (problem_of problem)) }
 {
@@ -109,11 +103,9 @@ fn solve_whole<R: Threads + Sync, G: Gate>(
     is_symmetric: bool,
     problem: Problem,
 ) -> Result<Reply, Status>
-    requires range { IsProblemInRange problem }
-    requires symmetric { IsTrue is_symmetric → IsSymmetric rows.now }
+    requires { IsPosed rows.now is_symmetric problem }
 
-    ensures done { IfOk result (λ reply.
-        IsDone rows.now (problem_of problem) whole reply.status (text_of reply.text)) }
+    ensures done { IfOk result (Solves rows.now (problem_of problem) whole) }
     ensures writable { IfOk result (λ reply. IsWritable reply.text) }
     ensures refused { IfErr result (IsUnsolved rows.now (problem_of problem)) }
 {
@@ -135,11 +127,9 @@ pub fn solve<R: Threads + Sync, G: Gate>(
     problem: Problem,
     form: Form,
 ) -> Result<Reply, Status>
-    requires range { IsProblemInRange problem }
-    requires symmetric { IsTrue is_symmetric → IsSymmetric rows.now }
+    requires { IsPosed rows.now is_symmetric problem }
 
-    ensures done { IfOk result (λ reply.
-        IsDone rows.now (problem_of problem) (form_of form) reply.status (text_of reply.text)) }
+    ensures done { IfOk result (Solves rows.now (problem_of problem) (form_of form)) }
     ensures writable { IfOk result (λ reply. IsWritable reply.text) }
     ensures refused { IfErr result (IsUnsolved rows.now (problem_of problem)) }
 {

@@ -5,11 +5,10 @@ ghost use Rattle.jul_base.specs.Graph.{vertices, places};
 ghost use Rattle.jul_witness.specs.Summaries.{named_number, summary_line};
 ghost use Rattle.jul_query.specs.Words.{task_name};
 ghost use Rattle.jul_query.specs.Queries.{distances, cores, cover, summary};
-ghost use Rattle.jul_query.specs.Ranges.{IsProblemInRange};
 ghost use Rattle.jul_query.specs.Asking.{problem_of};
 ghost use Rattle.jul_cmd.specs.Suited.{IsSuited};
-ghost use Rattle.jul_cmd.specs.Solving.{IsSummary, IsDone};
-ghost use Rattle.jul_cmd.specs.Parts.{text_of, IsWritable, IsUnsolved};
+ghost use Rattle.jul_cmd.specs.Solving.{IsSummary};
+ghost use Rattle.jul_cmd.specs.Parts.{IsPosed, Solves, IsWritable, IsUnsolved};
 
 use crate::cores::find_cores;
 use crate::covers::find_cover;
@@ -42,7 +41,8 @@ fn line_of(task: Task, rows: &Rows, first: &[u8], a: u64, second: &[u8], b: u64)
     requires first { length first.now ≤ 8 }
     requires second { length second.now ≤ 8 }
 
-    ensures { result ≡ summary_line (task_name task) (vertices rows.now) (places rows.now) first.now a second.now b }
+    ensures { result ≡ summary_line (task_name task)
+        (vertices rows.now) (places rows.now) first.now a second.now b }
 {
     let mut line = Line::of(task.name().as_bytes());
     put_named(&mut line, b"n", u64::from(rows.n()));
@@ -116,8 +116,7 @@ fn sum_up<R: Threads + Sync, G: Gate>(
     problem: Problem,
     task: Task,
 ) -> Result<Line, Status>
-    requires range { IsProblemInRange problem }
-    requires symmetric { IsTrue is_symmetric → IsSymmetric rows.now }
+    requires { IsPosed rows.now is_symmetric problem }
 
     ensures suited { OnOk result (IsSuited rows.now (problem_of problem)) }
     ensures summed { IfOk result (IsSummary rows.now (problem_of problem) (task_name task)) }
@@ -140,11 +139,9 @@ pub fn solve_summary<R: Threads + Sync, G: Gate>(
     problem: Problem,
     task: Task,
 ) -> Result<Reply, Status>
-    requires range { IsProblemInRange problem }
-    requires symmetric { IsTrue is_symmetric → IsSymmetric rows.now }
+    requires { IsPosed rows.now is_symmetric problem }
 
-    ensures done { IfOk result (λ reply. IsDone rows.now (problem_of problem) (summary (task_name task))
-        reply.status (text_of reply.text)) }
+    ensures done { IfOk result (Solves rows.now (problem_of problem) (summary (task_name task))) }
     ensures writable { IfOk result (λ reply. IsWritable reply.text) }
     ensures refused { IfErr result (IsUnsolved rows.now (problem_of problem)) }
 {

@@ -1,4 +1,4 @@
-use Rattle.std.proofs.Common.{sym, ◌∙◌, map, string_bytes}
+use Rattle.std.proofs.Common.{map, string_bytes}
 use Rattle.jul_query.specs.Asking.{asked_by}
 use Rattle.jul_query.specs.Words.{asked}
 use Rattle.jul_cmd.proofs.AnswerLaws.{refused_cause}
