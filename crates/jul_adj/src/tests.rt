@@ -91,7 +91,7 @@ fn a_seed_gives_its_graph(rt: HostRuntime) -> Result<(), Fail> {
 }
 
 /// Files with their first faults: the kind, the token and the byte place.
-const FAULTY: [(&str, FaultKind, u64, u64); 14] = [
+const FAULTY: [(&str, FaultKind, u64, u64); 22] = [
     ("", FaultKind::Truncated, 0, 0),
     ("adjacencygraph 1 0 0", FaultKind::Header, 0, 0),
     ("AdjacencyGraph -1 0", FaultKind::BadNumber, 1, 15),
@@ -146,6 +146,34 @@ const FAULTY: [(&str, FaultKind, u64, u64); 14] = [
         32,
     ),
     ("AdjacencyGraph 2 1 0 1 1 7", FaultKind::Trailing, 6, 25),
+    ("AdjacencyGraph 1 1 0 0 x", FaultKind::Trailing, 5, 23),
+    ("AdjacencyGraph 2 1 0 1 x", FaultKind::BadNumber, 5, 23),
+    ("AdjacencyGraph 2 1 0 1 -1 ", FaultKind::BadNumber, 5, 23),
+    (
+        "AdjacencyGraph 2 1 0 1 18446744073709551616",
+        FaultKind::TargetRange,
+        5,
+        23,
+    ),
+    ("AdjacencyGraph 0 1 0", FaultKind::TargetRange, 3, 19),
+    (
+        "AdjacencyGraph 3 2 0 2 1 x 0",
+        FaultKind::OffsetOrder,
+        5,
+        23,
+    ),
+    (
+        "AdjacencyGraph 2 3 0 1 1 1 2 9",
+        FaultKind::TargetRange,
+        7,
+        27,
+    ),
+    (
+        "WeightedAdjacencyGraph 1 2 0 0 0 7 00000000000000000000004294967296",
+        FaultKind::WeightRange,
+        7,
+        35,
+    ),
 ];
 
 /// A shelf with a file `g` that gives at most so many bytes a read.
@@ -192,12 +220,16 @@ fn a_fault_is_the_same_however_the_file_is_cut(rt: HostRuntime) -> Result<(), Fa
             let refusal = refusal_of(&rt, rt.alloc(), file.as_bytes(), most, block, 1000)?;
             assert_eq!(rt; refusal, Some(StreamError::Bad(fault)), "{file} by {block}");
         }
+        match read_graph(rt.alloc(), file.as_bytes(), 1000) {
+            Ok(_) => panic!(rt; "{file} was read"),
+            Err(e) => assert_eq!(rt; e, ReadError::Bad(Fault { kind, token, at }), "{file}"),
+        }
     }
     Ok(())
 }
 
 #[test]
-fn a_long_file_is_marked_by_two_workers(rt: HostRuntime) -> Result<(), Fail> {
+fn a_long_file_is_read_by_two_workers(rt: HostRuntime) -> Result<(), Fail> {
     let mut text = String::from_str(rt.alloc(), "AdjacencyGraph 1 99999 0")?;
     for _ in 0..99_998 {
         text.push_str(" 0")?;
