@@ -71,7 +71,8 @@ pub fn cover<R: Threads + Sync, G: Gate>(
     // At most 4 * (f + 1) times as many sets are chosen as any list has that holds every element.
     ensures small { IfOk result (λ r. IsSmallCover sets.now r.cover.round) }
 
-    ensures owners { IfOk result (λ r. (e : ℕ) → e < length sets.now → word_of r.owner_seat e ≡ slice_index r.cover.by e) }
+    ensures owners { IfOk result (λ r. (e : ℕ) → e < length sets.now →
+        word_of r.owner_seat e ≡ slice_index r.cover.by e) }
     ensures bids { IfOk result (λ r. (e : ℕ) → e < length sets.now → IsLastBid sets.now e (word_of r.bid_seat e)) }
 
     // For each round, in order, a draw of its bucket that has its active sets.

@@ -110,7 +110,8 @@ impl Gate for CountGate {
 
 /// A table with a word for each vertex, all of them `NONE`.
 fn words_for(alloc: Global, sets: &SetRows) -> Result<(MinWords, MinSeat), AllocError>
-    ensures { IfOk result (λ r. r.1 ≡ rooted (home r.0 (replicate (length sets.now) NONE) (replicate (length sets.now) 0))) }
+    ensures { IfOk result (λ r.
+        r.1 ≡ rooted (home r.0 (replicate (length sets.now) NONE) (replicate (length sets.now) 0))) }
 {
     let start = vec![in alloc; NONE; sets.n() as usize]?;
     MinWords::open(alloc, start.as_slice(), &ZeroFloors { count: sets.n() })
