@@ -13,6 +13,11 @@ use Rattle.jul_edge.specs.Edges.{Application}
 abbrev pub key : ℕ → ℕ → ℕ
 key hop u = hop * 4294967296 + u
 
+-- the word of each vertex that was reached and is no source is its key
+abbrev pub HasKeys : ℕ → List ℕ → (ℕ → ℕ) → List ℕ → List ℕ → Type 0
+HasKeys n sources word hops parent = (v : ℕ) → v < n → (Contains sources v → ⊥) → slice_index hops v ≢ NONE →
+    word v ≡ key (slice_index hops v) (slice_index parent v)
+
 -- the parent that a key word tells
 abbrev pub parent_of : ℕ → ℕ
 parent_of word = if word == NONE then NONE else word % 4294967296

@@ -1,5 +1,5 @@
 //! Hops and parents from a list of sources.
-ghost use Rattle.std.specs.Prelude.{◌≡◌, ◌≢◌, ℕ, ◌<◌, Contains, IfOk, IfSome, replicate, slice_index};
+ghost use Rattle.std.specs.Prelude.{◌≡◌, ℕ, ◌<◌, IfOk, IfSome, replicate};
 ghost use Rattle.jul_base.specs.declared.limits.TheConstants.{NONE};
 ghost use Rattle.jul_base.specs.Graph.{vertices};
 ghost use Rattle.jul_base.specs.InRows.{IsFlip};
@@ -9,7 +9,7 @@ ghost use Rattle.jul_base.specs.Trees.{AreTree};
 ghost use Rattle.jul_words.specs.Seats.{IsAlone, home, rooted};
 ghost use Rattle.jul_words.specs.Least.{word_of};
 ghost use Rattle.jul_edge.specs.EdgeMaps.{CanStamp};
-ghost use Rattle.jul_tree.specs.Hooking.{key};
+ghost use Rattle.jul_tree.specs.Hooking.{HasKeys};
 
 use crate::growing::grow;
 use crate::parents::parents_of;
@@ -58,8 +58,8 @@ fn grow_tree<R: Threads + Sync, G: Gate>(
     ensures tree { IfOk result (λ r. AreTree rows.now sources.now dist.now r.hops r.parent) }
 
     // The key word of each vertex that was reached and is no source.
-    ensures keys { IfOk result (λ r. (v : ℕ) → v < vertices rows.now → (Contains sources.now v → ⊥) → slice_index r.hops v ≢ NONE →
-        word_of r.key_seat v ≡ key (slice_index r.hops v) (slice_index r.parent v)) }
+    ensures keys { IfOk result (λ r.
+        HasKeys (vertices rows.now) sources.now (word_of r.key_seat) r.hops r.parent) }
     ensures key_seat { IfOk result (λ r. IsAlone r.key_seat × (r.key_seat.home ≡ key_seat.home)) }
     ensures stamp_seat { IfOk result (λ r. IsAlone r.stamp_seat × (r.stamp_seat.home ≡ stamp_seat.home)) }
     ensures stamps { IfOk result (λ r. (round : ℕ) → vertices rows.now < round →
@@ -126,8 +126,8 @@ pub fn tree<R: Threads + Sync, G: Gate>(
     ensures tree { IfOk result (λ r. AreTree rows.now sources.now dist.now r.hops r.parent) }
 
     // The key word of each vertex that was reached and is no source.
-    ensures keys { IfOk result (λ r. (v : ℕ) → v < vertices rows.now → (Contains sources.now v → ⊥) → slice_index r.hops v ≢ NONE →
-        word_of r.key_seat v ≡ key (slice_index r.hops v) (slice_index r.parent v)) }
+    ensures keys { IfOk result (λ r.
+        HasKeys (vertices rows.now) sources.now (word_of r.key_seat) r.hops r.parent) }
     ensures key_seat { IfOk result (λ r. IsAlone r.key_seat × (r.key_seat.home ≡ key_seat.home)) }
     ensures stamp_seat { IfOk result (λ r. IsAlone r.stamp_seat × (r.stamp_seat.home ≡ stamp_seat.home)) }
     ensures stamps { IfOk result (λ r. (round : ℕ) → vertices rows.now < round →
