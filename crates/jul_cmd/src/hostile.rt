@@ -24,23 +24,65 @@ struct Row<'a> {
     calls: u64,
 }
 
-const ROWS: [Row<'static>; 4] = [
+const ROWS: [Row<'static>; 10] = [
     Row {
-        words: &["kcore", "g"],
+        words: &["kcore", "g", "--workers=1"],
         graph: TRIANGLE,
         witness: "",
         text: TRIANGLE_CORES,
         calls: 11,
     },
     Row {
-        words: &["wbfs", "g", "--source", "0"],
+        words: &["kcore", "g", "--workers=2"],
+        graph: TRIANGLE,
+        witness: "",
+        text: TRIANGLE_CORES,
+        calls: 11,
+    },
+    Row {
+        words: &["kcore", "g", "--workers=7"],
+        graph: TRIANGLE,
+        witness: "",
+        text: TRIANGLE_CORES,
+        calls: 11,
+    },
+    Row {
+        words: &["wbfs", "g", "--workers=1"],
         graph: TWO_WAYS,
         witness: "",
         text: TWO_WAYS_TREE,
         calls: 12,
     },
     Row {
-        words: &["cover", "g"],
+        words: &["wbfs", "g", "--workers=2"],
+        graph: TWO_WAYS,
+        witness: "",
+        text: TWO_WAYS_TREE,
+        calls: 12,
+    },
+    Row {
+        words: &["wbfs", "g", "--workers=7"],
+        graph: TWO_WAYS,
+        witness: "",
+        text: TWO_WAYS_TREE,
+        calls: 12,
+    },
+    Row {
+        words: &["cover", "g", "--workers=1"],
+        graph: TWO_SETS,
+        witness: "",
+        text: TWO_SETS_COVER,
+        calls: 10,
+    },
+    Row {
+        words: &["cover", "g", "--workers=2"],
+        graph: TWO_SETS,
+        witness: "",
+        text: TWO_SETS_COVER,
+        calls: 10,
+    },
+    Row {
+        words: &["cover", "g", "--workers=7"],
         graph: TWO_SETS,
         witness: "",
         text: TWO_SETS_COVER,
@@ -139,11 +181,16 @@ fn each_failing_write_is_told(rt: HostRuntime) -> Result<(), Fail> {
     Ok(())
 }
 
-#[test]
-fn other_failing_objects_are_told(rt: HostRuntime) -> Result<(), Fail> {
-    let cores = trial_of(&["kcore", "g"], TRIANGLE, "");
-    let missing = trial_of(&["kcore", "x"], TRIANGLE, "");
-    let one_way = trial_of(&["kcore", "g"], ONE_WAY, "");
+/// Ends the test where an object that fails isn't told, by words for a file that is there and words for one that isn't.
+fn expect_failing_objects<'w, R: Threads + Sync + Abort>(
+    rt: &R,
+    alloc: Global,
+    here: &'w [&'w str],
+    elsewhere: &'w [&'w str],
+) -> Result<(), AllocError> {
+    let cores = trial_of(here, TRIANGLE, "");
+    let missing = trial_of(elsewhere, TRIANGLE, "");
+    let one_way = trial_of(here, ONE_WAY, "");
     let full = Trial {
         write_most: 1,
         room: 10,
@@ -169,7 +216,28 @@ fn other_failing_objects_are_told(rt: HostRuntime) -> Result<(), Fail> {
         (one_way, 4, "", "asymmetric at place 0\n"),
         (unheard, 4, "", ""),
     ] {
-        expect_answer(&rt, rt.alloc(), &trial, code, out, err)?;
+        expect_answer(rt, alloc, &trial, code, out, err)?;
+    }
+    Ok(())
+}
+
+#[test]
+fn other_failing_objects_are_told(rt: HostRuntime) -> Result<(), Fail> {
+    for (here, elsewhere) in [
+        (
+            ["kcore", "g", "--workers=1"].as_slice(),
+            ["kcore", "x", "--workers=1"].as_slice(),
+        ),
+        (
+            ["kcore", "g", "--workers=2"].as_slice(),
+            ["kcore", "x", "--workers=2"].as_slice(),
+        ),
+        (
+            ["kcore", "g", "--workers=7"].as_slice(),
+            ["kcore", "x", "--workers=7"].as_slice(),
+        ),
+    ] {
+        expect_failing_objects(&rt, rt.alloc(), here, elsewhere)?;
     }
     Ok(())
 }
@@ -219,9 +287,39 @@ fn expect_cuts<'w, R: Threads + Sync + Abort>(
 #[test]
 fn each_cut_of_a_file_is_told(rt: HostRuntime) -> Result<(), Fail> {
     for (words, file, text) in [
-        (["kcore", "g"].as_slice(), Which::Graph, TRIANGLE),
-        (["wbfs", "g"].as_slice(), Which::Graph, TWO_WAYS),
-        (["cover", "g"].as_slice(), Which::Graph, FAR),
+        (
+            ["kcore", "g", "--workers=1"].as_slice(),
+            Which::Graph,
+            TRIANGLE,
+        ),
+        (
+            ["kcore", "g", "--workers=2"].as_slice(),
+            Which::Graph,
+            TRIANGLE,
+        ),
+        (
+            ["kcore", "g", "--workers=7"].as_slice(),
+            Which::Graph,
+            TRIANGLE,
+        ),
+        (
+            ["wbfs", "g", "--workers=1"].as_slice(),
+            Which::Graph,
+            TWO_WAYS,
+        ),
+        (
+            ["wbfs", "g", "--workers=2"].as_slice(),
+            Which::Graph,
+            TWO_WAYS,
+        ),
+        (
+            ["wbfs", "g", "--workers=7"].as_slice(),
+            Which::Graph,
+            TWO_WAYS,
+        ),
+        (["cover", "g", "--workers=1"].as_slice(), Which::Graph, FAR),
+        (["cover", "g", "--workers=2"].as_slice(), Which::Graph, FAR),
+        (["cover", "g", "--workers=7"].as_slice(), Which::Graph, FAR),
         (["check", "g", "w"].as_slice(), Which::Graph, TRIANGLE),
         (
             ["check", "g", "w"].as_slice(),
