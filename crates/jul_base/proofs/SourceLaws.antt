@@ -1,13 +1,13 @@
 -- Lists of sources, and the column that a search starts from.
 use Rattle.std.proofs.Common.{◌≡◌, ◌≢◌, ℕ, zero, suc, ◌<◌, cond, List, [], ◌∷◌, length, get_or, sym, ◌∙◌, refl, arith, inl, inr}
-use Rattle.std.specs.List.{Contains}
+use Rattle.std.specs.List.{Contains, All}
 use Rattle.std.proofs.lemmas.Bool.{cases_Bool, both_ways, cond-true, cond-false}
 use Rattle.std.proofs.lemmas.List.{ext_get_or}
 use Rattle.std.proofs.lemmas.List.FromFn.{length-map-range_with_len, get_or-map-range_with_len}
 use Rattle.std.proofs.lemmas.List.Elements.{All-nil, All-cons}
 use Rattle.jul_base.specs.declared.limits.TheConstants.{NONE}
 use Rattle.jul_base.specs.Sets.{has}
-use Rattle.jul_base.specs.Sources.{AreSources, first_numbers}
+use Rattle.jul_base.specs.Sources.{AreNamedSources, AreSources, first_numbers}
 use Rattle.jul_base.proofs.SetLaws.{Contains-from_has, has-from_Contains}
 
 -- ---- one source
@@ -19,6 +19,10 @@ AreSources-one n source lt = record {
   increasing = λ k two. absurd (omega (arith, two));
   within = All-cons (λ s. s < n) source [] lt (All-nil (λ s. s < n));
 }
+
+-- sources that are named are sources of each graph that has them as vertices
+pub named_within : (n : ℕ) (sources : List ℕ) → AreNamedSources sources → All (λ s. s < n) sources → AreSources n sources
+named_within n sources named within = record { some = named.some; few = named.few; increasing = named.increasing; within = within }
 
 pub Contains-one : (source : ℕ) → Contains (source ∷ []) source
 Contains-one source = (0, omega arith, refl)

@@ -5,6 +5,12 @@ use Rattle.jul_base.specs.declared.limits.TheConstants.{NONE, MAX_SOURCES}
 use Rattle.jul_base.specs.Numbers.{below}
 use Rattle.jul_base.specs.Sets.{has}
 
+-- an increasing list of at least one and not too many numbers, which are vertices of a graph that has enough of them
+pub record AreNamedSources (sources : List ℕ) : Type 0 where
+  pub some : 1 ≤ length sources
+  pub few : length sources ≤ MAX_SOURCES
+  pub increasing : IsStrictlyIncreasing sources
+
 -- an increasing list of at least one and not too many of n vertices
 pub record AreSources (n : ℕ) (sources : List ℕ) : Type 0 where
   pub some : 1 ≤ length sources

@@ -24,6 +24,7 @@ impl Column {
         Column { items: v }
     }
 
+    /// The numbers as a slice, in order. Takes no memory.
     #[inline]
     pub fn as_slice(&self) -> &[u64]
         ensures { result.now ≡ self.now }
@@ -31,6 +32,7 @@ impl Column {
         self.items.as_slice()
     }
 
+    /// How many numbers there are.
     #[inline]
     pub fn len(&self) -> usize
         ensures { result ≡ length self.now }
@@ -38,6 +40,7 @@ impl Column {
         self.items.len()
     }
 
+    /// The number at index `i`, which must be below the length.
     #[inline]
     pub fn get(&self, i: usize) -> u64
         requires { i < length self.now }
@@ -73,6 +76,7 @@ impl Ids {
         *self.items.allocator()
     }
 
+    /// The numbers as a slice, in order. Takes no memory.
     #[inline]
     pub fn as_slice(&self) -> &[u32]
         ensures { result.now ≡ self.now }
@@ -80,6 +84,7 @@ impl Ids {
         self.items.as_slice()
     }
 
+    /// How many numbers there are.
     #[inline]
     pub fn len(&self) -> usize
         ensures { result ≡ length self.now }
@@ -87,6 +92,7 @@ impl Ids {
         self.items.len()
     }
 
+    /// The number at index `i`, which must be below the length.
     #[inline]
     pub fn get(&self, i: usize) -> u32
         requires { i < length self.now }

@@ -43,6 +43,7 @@ impl Names<Vec<u64>> for AfterFirst {
     ghost numbers = { λ words. drop 1 words.items };
 }
 
+/// The rule of a table of words: its words and views mean what `P` says of the log.
 pub struct Logged<P: Meaning> {
     marker: PhantomData<P>,
 }
