@@ -3,7 +3,8 @@ ghost use Rattle.std.specs.Prelude.{◌≡◌, ◌<◌, ◌≤◌, length, IfOk}
 ghost use Rattle.jul_text.specs.Cuts.{EndsWhite, AreCutPoints};
 ghost use Rattle.jul_adj.specs.Cutting.{CanRead, cut_of, IsReadAs, AreCutsRead};
 
-use jul_base::{Free, Gate};
+use crate::spares::{Spares, Stack};
+use jul_base::Gate;
 use jul_pool::{Job, Team, run_all};
 use jul_text::read_numbers;
 use std::alloc::{AllocError, Global};
@@ -18,14 +19,13 @@ const BYTES_FOR_A_TOKEN: u64 = 8;
 /// A text that is cut behind white bytes; each cut is a chunk.
 #[derive(Drop)]
 struct NumberJob<'a, 'b> {
-    alloc: Global,
     bytes: &'a [u8],
     points: &'b [usize],
     bound: u32,
 }
 
 impl<'a, 'b> Job for NumberJob<'a, 'b> {
-    type Token = Free;
+    type Token = Spares;
 
     type Out = Option<Vec<u32>>;
 
@@ -33,11 +33,11 @@ impl<'a, 'b> Job for NumberJob<'a, 'b> {
 
     ghost gives = { λ j chunk out added. IsReadAs (cut_of j.bytes.now j.points.now chunk) j.bound out };
 
-    fn run(&self, chunk: u32, _token: &mut Free) -> Result<Option<Vec<u32>>, AllocError> {
+    fn run(&self, chunk: u32, token: &mut Spares) -> Result<Option<Vec<u32>>, AllocError> {
         let from = self.points[chunk as usize];
         let to = self.points[chunk as usize + 1];
         // A number and the white byte behind it are two bytes at least.
-        let mut values = Vec::with_capacity(self.alloc, (to - from) / 2)?;
+        let mut values = token.list((to - from) / 2)?;
         if read_numbers(&self.bytes[from..to], self.bound, &mut values)? {
             Ok(Some(values))
         } else {
@@ -59,8 +59,15 @@ pub(crate) fn pieces(len: usize) -> u32
     (len / PIECE + 1).min(64) as u32
 }
 
+/// What was read of each cut, and the stacks of lists that are left.
+#[derive(Drop)]
+pub(crate) struct Together {
+    pub(crate) cuts: Vec<Option<Vec<u32>>>,
+    pub(crate) stacks: Vec<Stack>,
+}
+
 /// The numbers up to a bound of each cut of a text that ends in a white byte. None is a cut that may have a token of
-/// another kind.
+/// another kind. Threads fill the lists of the stacks, and take more where they have none left.
 pub(crate) fn read_together<R: Threads + Sync, G: Gate>(
     rt: &R,
     alloc: Global,
@@ -69,19 +76,22 @@ pub(crate) fn read_together<R: Threads + Sync, G: Gate>(
     points: &[usize],
     pieces: u32,
     bound: u32,
-) -> Result<Vec<Option<Vec<u32>>>, AllocError>
+    stacks: Vec<Stack>,
+) -> Result<Together, AllocError>
     requires white { EndsWhite bytes.now }
     requires some { 0 < pieces }
     requires points { AreCutPoints bytes.now pieces points.now }
 
-    ensures { IfOk result (λ cuts. AreCutsRead bytes.now points.now pieces bound cuts.items) }
+    ensures { IfOk result (λ r. AreCutsRead bytes.now points.now pieces bound r.cuts.items) }
 {
     let job = NumberJob {
-        alloc,
         bytes,
         points,
         bound,
     };
-    let done = run_all(rt, alloc, team, pieces, &job, Free::root())?;
-    Ok(done.outs)
+    let done = run_all(rt, alloc, team, pieces, &job, Spares::root(alloc, stacks))?;
+    Ok(Together {
+        cuts: done.outs,
+        stacks: done.token.into_stacks(),
+    })
 }

@@ -8,10 +8,12 @@ ghost use Rattle.jul_adj.specs.Reading.{read_tokens, Gives};
 use crate::cutting::{PIECE, pieces, read_together, team_for};
 use crate::faults::ReadError;
 use crate::readings::Reading;
+use crate::spares::{Stack, give_back};
 use jul_base::{Gate, RawGraph};
 use jul_pool::Team;
 use jul_text::{Feeder, Mark, cut_points, read_numbers, white_span};
 use std::alloc::{AllocError, Global};
+use std::mem;
 use std::thread::Threads;
 
 /// A graph file of which some bytes were taken.
@@ -23,6 +25,8 @@ pub(crate) struct Intake {
     marks: Vec<Mark>,
     // The numbers of the latest piece, if it was read as numbers.
     values: Vec<u32>,
+    // Lists that threads have filled, to be filled again.
+    stacks: Vec<Stack>,
 }
 
 // A part of a text.
@@ -48,6 +52,7 @@ impl Intake {
             reading: Reading::new(alloc),
             marks: Vec::new(alloc),
             values: Vec::new(alloc),
+            stacks: Vec::new(alloc),
         }
     }
 
@@ -215,8 +220,12 @@ impl Intake {
     {
         let pieces = pieces(middle.len());
         let points = cut_points(alloc, middle, pieces)?;
-        let cuts = read_together(rt, alloc, team, middle, &points, pieces, bound)?;
-        self.feed_cuts(middle, &points, &cuts, bound)
+        let stacks = mem::replace(&mut self.stacks, Vec::new(alloc));
+        let read = read_together(rt, alloc, team, middle, &points, pieces, bound, stacks)?;
+        self.feed_cuts(middle, &points, &read.cuts, bound)?;
+        self.stacks = read.stacks;
+        give_back(read.cuts, &mut self.stacks);
+        Ok(())
     }
 
     /// What the file says, of which all bytes were taken.
@@ -228,6 +237,7 @@ impl Intake {
             mut reading,
             marks: _,
             values: _,
+            stacks: _,
         } = self;
         let len = feeder.count();
         if let Some(last) = feeder.finish() {

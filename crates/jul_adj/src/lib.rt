@@ -16,6 +16,7 @@ mod reading;
 mod readings;
 mod rules;
 mod sizes;
+mod spares;
 mod storing;
 mod streaming;
 mod values;
