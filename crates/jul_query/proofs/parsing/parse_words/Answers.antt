@@ -9,13 +9,6 @@ use Rattle.jul_query.proofs.parsing.parse_words.Goals as goal
 pub returns-then-is_counted_twice-clause-asked : goal.returns-then-is_counted_twice-clause-asked
 returns-then-is_counted_twice-clause-asked c = asked_twice _ _ c.is_counted_twice.ensures c.if-is_counted_twice.true
 
-pub returns-in-Some-clause-asked : goal.returns-in-Some-clause-asked
-returns-in-Some-clause-asked c =
-    IsAsked-map c.read_line.result _
-    (asked_line _ _ c.in_ok-line.field-0 c.is_counted_twice.ensures c.if-is_counted_twice.false c.in_ok-line.ensures.plain
-    ∙ ap (λ (o : Option CommandLine). option_and_then asked_split (option_map split_by o)) c.in-Some.is
-    ∙ sym c.read_line.ensures.asked)
-
 pub returns-in-None-clause-asked : goal.returns-in-None-clause-asked
 returns-in-None-clause-asked c =
     asked_line _ _ c.in_ok-line.field-0 c.is_counted_twice.ensures c.if-is_counted_twice.false c.in_ok-line.ensures.plain
