@@ -30,10 +30,10 @@ loop-part-preserved c =
       few = omega (arith, c.loop-part.invariant.few);
       increasing = subst P (sym put) (IsStrictlyIncreasing-with_number c.loop-part.sources.items c.in-Some-number_in.source c.loop-part.invariant.increasing);
       rest =
-        ap (λ (xs : List ℕ). onward xs (drop (length (c.loop-part.yielded ++ c.in-Some.part ∷ [])) parts)) put
-        ∙ ap (λ (k : ℕ). onward (with_number c.loop-part.sources.items c.in-Some-number_in.source) (drop k parts)) more
-        ∙ sym (onward-some c.loop-part.sources.items parts (length c.loop-part.yielded) c.in-Some.part.now turn.0 turn.1 c.in-Some-number_in.source (sym c.in-Some-number_in.ensures.value))
-        ∙ c.loop-part.invariant.rest;
+          ap (λ (xs : List ℕ). onward xs (drop (length (c.loop-part.yielded ++ c.in-Some.part ∷ [])) parts)) put
+          ∙ ap (λ (k : ℕ). onward (with_number c.loop-part.sources.items c.in-Some-number_in.source) (drop k parts)) more
+          ∙ sym (onward-some c.loop-part.sources.items parts (length c.loop-part.yielded) c.in-Some.part.now turn.0 turn.1 c.in-Some-number_in.source (sym c.in-Some-number_in.ensures.value))
+          ∙ c.loop-part.invariant.rest;
     }
 
 pub returns : goal.returns
