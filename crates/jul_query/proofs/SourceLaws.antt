@@ -1,8 +1,9 @@
 -- Lists of sources: a number more in an increasing list, and the parts of a text one after another.
-use Rattle.std.proofs.Common.{◌≡◌, ℕ, zero, suc, ◌+◌, ◌<◌, ◌≤◌, Bool, true, false, eqb, nat_le, if◌then◌else◌, List, [], ◌∷◌, length, get_or, drop, fold, Option, Some, None, Result, Ok, Err, MatchResult, sym, ◌∙◌, ap, subst, refl, arith, add-one, inl, inr}
+use Rattle.std.proofs.Common.{◌≡◌, ℕ, zero, suc, ◌+◌, ◌<◌, ◌≤◌, Bool, true, false, eqb, nat_le, if◌then◌else◌, List, [], ◌∷◌, length, get_or, drop, fold, Option, Some, None, Result, Ok, Err, IfNone, IfSome, sym, ◌∙◌, ap, subst, refl, arith, add-one, inl, inr}
 use Rattle.std.specs.List.{insert}
 use Rattle.std.specs.List.Sorted.{IsStrictlyIncreasing, IsBinarySearchResult}
 use Rattle.std.specs.Ordering.{nat_cmp}
+use Rattle.std.specs.Result.{result_err}
 use Rattle.std.specs.Option.{option_map, option_and_then}
 use Rattle.std.proofs.lemmas.Bool.{cases_lt, cases_order}
 use Rattle.std.proofs.lemmas.Bool.Decides.{nat_tests}
@@ -105,14 +106,24 @@ rising xs up i j le lt =
       | inr (inr more) ↦ absurd (omega arith)
     ]
 
-pub put_where_found : (xs : List ℕ) (number : ℕ) (r : Result ℕ ℕ) → IsStrictlyIncreasing xs → IsBinarySearchResult (λ y. nat_cmp y number) xs r
-    → MatchResult r (λ i. with_number xs number ≡ xs) (λ i. with_number xs number ≡ insert xs i number)
-put_where_found xs number (Ok i) up found =
+-- the place of a new number, or None where the list has the number
+pub record IsPlaceOf (xs : List ℕ) (number : ℕ) (found : Option ℕ) : Type 0 where
+  pub there : IfNone found (with_number xs number ≡ xs)
+  pub within : IfSome found (λ i. i ≤ length xs)
+  pub place : IfSome found (λ i. with_number xs number ≡ insert xs i number)
+
+pub IsPlaceOf-found : (xs : List ℕ) (number : ℕ) (r : Result ℕ ℕ) → IsStrictlyIncreasing xs → IsBinarySearchResult (λ y. nat_cmp y number) xs r
+    → IsPlaceOf xs number (result_err r)
+IsPlaceOf-found xs number (Ok i) up found =
     let at = searched xs number (Ok i) found (rising xs up) in
-    with_number-there xs number i at.0 at.1 (λ k less. omega (arith, AllPairs-from_increasing xs up k i 0 less at.0, at.1))
-put_where_found xs number (Err i) up found =
+    record {
+      there = with_number-there xs number i at.0 at.1 (λ k less. omega (arith, AllPairs-from_increasing xs up k i 0 less at.0, at.1));
+      within = tt;
+      place = tt;
+    }
+IsPlaceOf-found xs number (Err i) up found =
     let at = searched xs number (Err i) found (rising xs up) in
-    with_number-new xs number i at.0 at.1 at.2
+    record { there = tt; within = at.0; place = with_number-new xs number i at.0 at.1 at.2 }
 
 -- ---- the parts of a text
 

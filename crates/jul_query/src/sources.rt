@@ -1,5 +1,6 @@
 //! Lists of sources.
-ghost use Rattle.std.specs.Prelude.{◌≡◌, IfOk, IfSome, OnOk};
+ghost use Rattle.std.specs.Prelude.{◌≡◌, ◌≤◌, length, IfOk, IfNone, IfSome, OnOk};
+ghost use Rattle.std.specs.List.{insert};
 ghost use Rattle.std.specs.List.Sorted.{IsStrictlyIncreasing};
 ghost use Rattle.jul_base.specs.Sources.{AreNamedSources};
 ghost use Rattle.jul_query.specs.Asking.{named_sources};
@@ -14,13 +15,24 @@ use std::alloc::{AllocError, Global};
 
 const MAX_SOURCE: u32 = u32::MAX;
 
+// Where a number goes in an increasing list, or None where it stands there.
+fn place_of(numbers: &[u32], number: u32) -> Option<usize>
+    requires { IsStrictlyIncreasing numbers.now }
+
+    ensures there { IfNone result (with_number numbers.now number ≡ numbers.now) }
+    ensures within { IfSome result (λ at. at ≤ length numbers.now) }
+    ensures place { IfSome result (λ at. with_number numbers.now number ≡ insert numbers.now at number) }
+{
+    numbers.binary_search(&number).err()
+}
+
 // Puts a number into an increasing list, unless it stands there.
 fn put_number(numbers: &mut Vec<u32>, number: u32) -> Result<(), AllocError>
     requires { IsStrictlyIncreasing numbers.old.items }
 
     ensures { OnOk result (numbers.new.items ≡ with_number numbers.old.items number) }
 {
-    if let Err(at) = numbers.binary_search(&number) {
+    if let Some(at) = place_of(numbers, number) {
         numbers.insert(at, number)?;
     }
     Ok(())
