@@ -14,7 +14,7 @@ use Rattle.jul_query.specs.Settings.{settings_asked}
 use Rattle.jul_query.specs.Splitting.{Split, split}
 use Rattle.jul_query.specs.Asking.{IsAsked, asked_by}
 use Rattle.jul_query.specs.Queries.{Purpose, check, upgrade, Asked, meant}
-use Rattle.jul_query.specs.Words.{is_absent, task_of, sources_named, sources_asked, problem_asked, asked_run, asked_judgement, asked_check, asked_demo, asked_summary, asked_as, asked, asked_split}
+use Rattle.jul_query.specs.Words.{is_absent, task_of, sources_named, sources_asked, problem_asked, asked_run, asked_judgement, asked_check, asked_demo, asked_as, asked, asked_split}
 
 pub asked_twice : (words : List Text) (is : Bool) → is ≡ is_counted_twice words → is ≡ true → asked words ≡ None
 unfolding asked

@@ -22,7 +22,7 @@ is_absent text = not (is_some text)
 abbrev pub parts_of : Text → List Text
 parts_of = slice_split (λ byte. byte == 44)
 
--- the numbers of the parts, or None where a part is no number of a vertex
+-- the numbers of the parts, or None where a part isn't the number of a source
 abbrev pub numbers_of : List Text → Option (List ℕ)
 numbers_of [] = Some []
 numbers_of (part ∷ parts) =

@@ -281,7 +281,8 @@ fn read_line<'a>(alloc: Global, line: &CommandLine<'a>) -> Result<Option<Query<'
 /// What the words after the program's name ask for, or None where they aren't taken. An Err is want of memory.
 ///
 /// `clap` splits the words; an option or flag given twice is refused before. A number is digits alone, a value that begins
-/// with a minus sign is none, and neither `check` nor `upgrade` of standard input against itself is taken.
+/// with a minus sign is none, and neither `check` nor `upgrade` of standard input against itself is taken. Sources are the
+/// distinct numbers of a list, increasing.
 pub fn parse_words<'a>(alloc: Global, words: &'a [String]) -> Result<Option<Query<'a>>, AllocError>
     ensures asked { IfOk result (λ query. IsAsked query (asked (map string_bytes words.entry.now))) }
     ensures settings { IfOk result (λ query. IfSome query (HasSettingsOf (map string_bytes words.entry.now))) }

@@ -1,4 +1,4 @@
-//! Lists of sources.
+//! Lists of sources: numbers with a comma between each two.
 ghost use Rattle.std.specs.Prelude.{◌≡◌, ◌≤◌, length, IfOk, IfNone, IfSome, OnOk};
 ghost use Rattle.std.specs.List.{insert};
 ghost use Rattle.std.specs.List.Sorted.{IsStrictlyIncreasing};
@@ -58,7 +58,10 @@ fn read_list(alloc: Global, text: &str) -> Result<Option<Vec<u32>>, AllocError>
     Ok(Some(sources))
 }
 
-/// The sources that the words name, or vertex 0 alone; None where `--source` isn't a list of sources.
+/// The sources that the words name, or vertex 0 alone; None where `--source` isn't a list of 1 to `MAX_SOURCES` numbers. An Err
+/// is want of memory.
+///
+/// They increase, and each number is there once. A text with too many parts is read no further than that shows.
 pub fn read_sources(alloc: Global, line: &CommandLine<'_>) -> Result<Option<Vec<u32>>, AllocError>
     ensures value { IfOk result (λ sources. named_sources sources ≡ sources_asked (split_by line.now)) }
     ensures ranges { IfOk result (λ sources. IfSome sources (λ named. AreNamedSources named.items)) }

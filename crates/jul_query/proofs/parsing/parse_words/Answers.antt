@@ -1,4 +1,4 @@
-use Rattle.std.proofs.Common.{◌∙◌, Option, sym, ap}
+use Rattle.std.proofs.Common.{◌∙◌, Option, ap}
 use Rattle.std.specs.Option.{option_map, option_and_then}
 use Rattle.jul_query.specs.declared.command_line.CommandLine.{CommandLine}
 use Rattle.jul_query.specs.CommandLines.{split_by}

@@ -1,9 +1,9 @@
-use Rattle.std.proofs.Common.{◌≡◌, ◌∙◌, ◌≤◌, ◌+◌, ℕ, List, length, drop, [], ◌∷◌, ◌++◌, Some, sym, ap, subst, arith, lit<}
+use Rattle.std.proofs.Common.{◌≡◌, ◌∙◌, ◌≤◌, ℕ, List, length, drop, [], ◌∷◌, ◌++◌, sym, ap, subst, arith, lit<}
 use Rattle.std.specs.List.Sorted.{IsStrictlyIncreasing}
 use Rattle.std.proofs.lemmas.Iterator.Consumers.{YieldsList-turn, YieldsList-end, YieldsList-at}
 use Rattle.std.proofs.lemmas.Iterator.Splits.{YieldsList-from_str_split}
 use Rattle.std.proofs.lemmas.List.{at_drop_all, length_push}
-use Rattle.jul_query.specs.Words.{parts_of, with_number, sources_in}
+use Rattle.jul_query.specs.Words.{parts_of, with_number}
 use Rattle.jul_query.proofs.SourceLaws.{onward, onward-none, onward-some, too_long, no_sources, all_sources, AreNamedSources-in, IsStrictlyIncreasing-with_number}
 use Rattle.jul_query.proofs.sources.read_list.Goals as goal
 
