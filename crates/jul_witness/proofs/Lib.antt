@@ -1,10 +1,3 @@
 pub mod TextLaws
 pub mod RoleLaws
-pub mod ReadingLaws
-pub mod ScanningLaws
-pub mod LawfulLaws
-pub mod PartLaws
-pub mod ReadBackLaws
-pub mod ResultLaws
-pub mod Rows
 pub mod SummaryRows

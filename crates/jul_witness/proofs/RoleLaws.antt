@@ -1,31 +1,26 @@
--- Which tokens are numbers of columns, and what is said by the number of vertices.
-use Rattle.std.proofs.Common.{◌≡◌, ℕ, ◌+◌, ◌*◌, ◌<◌, ◌≤◌, List, Some, ◌∙◌, ap, arith}
+-- What the tokens with each number stand for, and what is said by the first ones.
+use Rattle.std.proofs.Common.{◌≡◌, ℕ, ◌+◌, ◌-◌, ◌*◌, ◌<◌, ◌≤◌, Bool, true, false, cond, ◌&&◌, List, Some, refl, ◌∙◌, ap, arith}
 use Rattle.std.proofs.lemmas.Bool.{ne_eqb, lt-ltb, le-ltb, cond-true, cond-false}
 use Rattle.std.specs.Option.{unwrap_or}
+use Rattle.jul_base.specs.declared.limits.TheConstants.{MAX_N, MAX_M, MAX_SOURCES}
 use Rattle.jul_text.specs.Tokens.{Word}
 use Rattle.jul_text.specs.Scanning.{text_at}
 use Rattle.jul_witness.specs.declared.forms.Form.{Form}
+use Rattle.jul_witness.specs.declared.forms.Form.TheVariants as forms
+use Rattle.jul_witness.specs.declared.forms.Version.{Version}
+use Rattle.jul_witness.specs.declared.forms.Version.TheVariants.{First, Second}
+use Rattle.jul_witness.specs.declared.forms.Heading.{Heading}
 use Rattle.jul_witness.specs.declared.faults.WitnessKind.TheVariants.{Trailing}
-use Rattle.jul_witness.specs.Forms.{columns_of}
-use Rattle.jul_witness.specs.Reading.{count_of, entry_of, said_vertices, all_tokens, fault_without, kind_at}
+use Rattle.jul_witness.specs.Forms.{columns_of, are_distances, has_places, has_sources}
+use Rattle.jul_witness.specs.Roles.{number_of, said_vertices, said_places, said_count, said_source, sizes_end, front, all_tokens, Role, word, vertex_count, place_count, source_count, source, entry, extra, role_at}
+use Rattle.jul_witness.specs.Faults.{rule_fault, up_to, count_rule, source_rule, entry_rule, least_source, fault_in, kind_at}
 
-pub kind_entry : (form : Form) (ws : List Word) (j : ℕ) → 2 ≤ j → j < all_tokens form ws → kind_at form ws j ≡ fault_without (entry_of form (text_at ws j))
-kind_entry form ws j low high =
-    cond-false _ _ _ (ne_eqb j 0 (λ e. absurd (omega (arith, e))))
-    ∙ cond-false _ _ _ (ne_eqb j 1 (λ e. absurd (omega (arith, e))))
-    ∙ cond-true _ _ _ (lt-ltb j (all_tokens form ws) high)
+-- ---- how many tokens there are
 
-pub kind_extra : (form : Form) (ws : List Word) (j : ℕ) → j ≡ all_tokens form ws → kind_at form ws j ≡ Some Trailing
-kind_extra form ws j e =
-    cond-false _ _ _ (ne_eqb j 0 (λ z. absurd (omega (arith, z, e))))
-    ∙ cond-false _ _ _ (ne_eqb j 1 (λ z. absurd (omega (arith, z, e))))
-    ∙ cond-false _ _ _ (le-ltb j (all_tokens form ws) (omega (arith, e)))
+ends_with : (b : Bool) → b ≡ true → cond b 3 2 ≡ 3
+ends_with b e = cond-true b 3 2 e
 
--- the number of vertices that was read is the one that is said
-pub said_is : (ws : List Word) (n : ℕ) → count_of (text_at ws 1) ≡ Some n → said_vertices ws ≡ n
-said_is ws n e = ap (λ o. unwrap_or o 0) e
+pub two_before_front : (heading : Heading) (ws : List Word) → 2 ≤ front heading ws
+two_before_front heading ws = grind arith
 
-pub all_tokens_is : (form : Form) (ws : List Word) (k n : ℕ) → columns_of form ≡ k → said_vertices ws ≡ n → all_tokens form ws ≡ 2 + k * n
-all_tokens_is form ws k n a b = ap (λ c. 2 + c * said_vertices ws) a ∙ ap (λ m. 2 + k * m) b
-
-pub ruleset roles = (kind_entry)
+pub ruleset roles = (two_before_front)
