@@ -1,3 +1,6 @@
 pub mod TextLaws
 pub mod RoleLaws
+pub mod ReadingLaws
+pub mod ScanningLaws
+pub mod LawfulLaws
 pub mod SummaryRows
