@@ -37,9 +37,9 @@ returns-then-value-rule-clause-err c =
     let number : number_of c.args.rule.dash c.args.rule.bound (text_at (tokens c.args.bytes.now) c.args.place.token) ≡ Some c.in-Some-number_up_to.value =
     number_is c.args.bytes.now c.args.place.at c.args.place.token c.args.rule.bound c.in-Some.token c.args.rule.dash c.number_up_to.result
     c.requires.clean.here c.in-Some.ensures.first c.number_up_to.ensures ∙ c.in-Some-number_up_to.is in
-    fault_is c.args.heading c.args.bytes.now c.args.place.at c.args.place.token (length c.args.bytes.now) c.in-Some.token c.args.rule.low ?
+    fault_is c.args.heading c.args.bytes.now c.args.place.at c.args.place.token (length c.args.bytes.now) c.in-Some.token c.args.rule.low c.fault-then-value-rule.result
     c.requires.clean c.in-Some.ensures.first
-    (c.requires.ruled ∙ ap (low_fault c.args.rule) number ∙ is_low c.args.rule c.in-Some-number_up_to.value ?) ?
+    (c.requires.ruled ∙ ap (low_fault c.args.rule) number ∙ is_low c.args.rule c.in-Some-number_up_to.value c.if-value-rule.true) c.fault-then-value-rule.ensures
 
 pub returns-clause-next : goal.returns-clause-next
 returns-clause-next c =
@@ -47,4 +47,4 @@ returns-clause-next c =
     number_is c.args.bytes.now c.args.place.at c.args.place.token c.args.rule.bound c.in-Some.token c.args.rule.dash c.number_up_to.result
     c.requires.clean.here c.in-Some.ensures.first c.number_up_to.ensures ∙ c.in-Some-number_up_to.is in
     clean_more c.args.heading c.args.bytes.now c.args.place.at c.args.place.token c.in-Some.token c.requires.clean c.in-Some.ensures.found c.in-Some.ensures.first
-    (c.requires.ruled ∙ ap (low_fault c.args.rule) number ∙ not_low c.args.rule c.in-Some-number_up_to.value ?)
+    (c.requires.ruled ∙ ap (low_fault c.args.rule) number ∙ not_low c.args.rule c.in-Some-number_up_to.value c.if-value-rule.false)
