@@ -4,4 +4,6 @@ pub mod ReadingLaws
 pub mod ScanningLaws
 pub mod LawfulLaws
 pub mod SourceLaws
+pub mod PartLaws
+pub mod ReadBackLaws
 pub mod SummaryRows

@@ -34,13 +34,13 @@ source_asked heading ws i j named lt place = omega (arith, place, lt, front_with
 pub record IsSource (least : ℕ) (text : List ℕ) (x : ℕ) : Type 0 where
   pub number : number_of false (2 ^ 32 - 1) text ≡ Some x
   pub within : x ≤ 2 ^ 32 - 1
-  pub least : least ≤ x
+  pub high : least ≤ x
 
 pub source_read : (least : ℕ) (rule : Rule) (text : List ℕ) (x : ℕ) → rule ≡ source_rule least → number_of rule.dash rule.bound text ≡ Some x → rule.least ≤ x → IsSource least text x
 source_read least rule text x is number low =
     let read : number_of false (2 ^ 32 - 1) text ≡ Some x = ap (λ (r : Rule). number_of r.dash r.bound text) (sym is) ∙ number in
     let low_is : rule.least ≡ least = ap (λ (r : Rule). r.least) is in
-    record { number = read; within = number_of-within (2 ^ 32 - 1) text x read; least = omega (arith, low_is, low) }
+    record { number = read; within = number_of-within (2 ^ 32 - 1) text x read; high = omega (arith, low_is, low) }
 
 -- the least that the next source may be
 pub least_next : (ws : List Word) (i : ℕ) → least_source ws (i + 1) ≡ said_source ws i + 1

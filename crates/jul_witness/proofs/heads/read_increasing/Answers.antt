@@ -1,4 +1,4 @@
-use Rattle.std.proofs.Common.{◌≡◌, ◌<◌, ℕ, List, ◌+◌, ◌++◌, ◌∷◌, [], sym, ◌∙◌, subst, ap, arith}
+use Rattle.std.proofs.Common.{◌≡◌, ◌<◌, ◌-◌, ◌^◌, ℕ, false, List, ◌+◌, ◌++◌, ◌∷◌, [], sym, ◌∙◌, subst, ap, arith}
 use Rattle.std.specs.List.Sorted.{IsStrictlyIncreasing}
 use Rattle.jul_text.specs.Tokens.{Word, tokens}
 use Rattle.jul_text.specs.Scanning.{text_at}
@@ -24,13 +24,13 @@ loop-preserved c =
     let x : ℕ = c.in_ok-value.value in
     let xs : List ℕ = c.loop.sources.items in
     let read = source_read c.loop.least c.source.result (text_at ws c.loop.place.token) x c.source.ensures c.in_ok-value.ensures.value c.in_ok-value.ensures.least in
-    let value : said_source ws i ≡ x = said_is _ ws (4 + i) x (ap (λ (j : ℕ). number_of _ _ (text_at ws j)) (sym c.loop.invariant.token) ∙ read.number) in
+    let value : said_source ws i ≡ x = said_is (2 ^ 32 - 1) ws (4 + i) x (ap (λ (j : ℕ). number_of false (2 ^ 32 - 1) (text_at ws j)) (sym c.loop.invariant.token) ∙ read.number) in
     let pushed : xs ++ x ∷ [] ≡ c.push.new.self.items = sym c.in_ok-push.ensures.items in
     record {
       clean = c.in_ok-value.ensures.next;
       token = omega (arith, c.loop.invariant.token, c.in_ok-value.ensures.token);
       sources = sym pushed ∙ ap (λ (ys : List ℕ). ys ++ x ∷ []) c.loop.invariant.sources ∙ sources_push ws i x value;
       least = ap (λ (y : ℕ). y + 1) (sym value) ∙ sym (least_next ws i);
-      increasing = subst IsStrictlyIncreasing pushed (increasing_push xs x c.loop.least c.loop.invariant.increasing c.loop.invariant.under read.least);
-      under = subst (λ (ys : List ℕ). AreBelow ys (x + 1)) pushed (below_push xs x c.loop.least c.loop.invariant.under read.least);
+      increasing = subst IsStrictlyIncreasing pushed (increasing_push xs x c.loop.least c.loop.invariant.increasing c.loop.invariant.under read.high);
+      under = subst (λ (ys : List ℕ). AreBelow ys (x + 1)) pushed (below_push xs x c.loop.least c.loop.invariant.under read.high);
     }
