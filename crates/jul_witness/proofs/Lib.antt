@@ -6,4 +6,5 @@ pub mod LawfulLaws
 pub mod SourceLaws
 pub mod PartLaws
 pub mod ReadBackLaws
+pub mod ResultLaws
 pub mod SummaryRows
