@@ -7,4 +7,5 @@ pub mod SourceLaws
 pub mod PartLaws
 pub mod ReadBackLaws
 pub mod ResultLaws
+pub mod Rows
 pub mod SummaryRows
