@@ -9,7 +9,7 @@ use Rattle.std.proofs.lemmas.List.FromFn.{length-map-range_with_len, get_or-map-
 use Rattle.jul_base.specs.declared.limits.TheConstants.{NONE, MAX_N}
 use Rattle.jul_text.specs.Tokens.{Word}
 use Rattle.jul_text.specs.Scanning.{text_at}
-use Rattle.jul_text.specs.Numerals.{numeral, is_numeral, is_negative}
+use Rattle.jul_text.specs.Numerals.{is_numeral, is_negative}
 use Rattle.jul_text.specs.declared.numerals.Numeral.TheVariants.{Value, Above, Negative, Bad}
 use Rattle.jul_witness.specs.declared.forms.Form.{Form}
 use Rattle.jul_witness.specs.declared.forms.Form.TheVariants as forms

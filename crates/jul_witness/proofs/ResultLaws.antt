@@ -3,7 +3,7 @@ use Rattle.std.proofs.Common.{◌≡◌, ◌≢◌, ℕ, suc, ◌^◌, ◌<◌, 
 use Rattle.std.specs.List.{All}
 use Rattle.std.proofs.lemmas.Bool.{cases_lt, cond-false, le-ltb}
 use Rattle.std.proofs.lemmas.List.{get_or_past}
-use Rattle.jul_base.specs.declared.limits.TheConstants.{NONE, MAX_N, MAX_M, MAX_SOURCES, MAX_BYTES}
+use Rattle.jul_base.specs.declared.limits.TheConstants.{NONE, MAX_M, MAX_BYTES}
 use Rattle.jul_base.specs.declared.results.Cores.{Cores}
 use Rattle.jul_base.specs.declared.results.Distances.{Distances}
 use Rattle.jul_base.specs.declared.results.Cover.{Cover}
@@ -18,7 +18,7 @@ use Rattle.jul_witness.specs.Forms.{written, takes_dash}
 use Rattle.jul_witness.specs.Lawful.{AreLawfulCores, AreLawfulDistances, IsLawfulCover}
 use Rattle.jul_witness.specs.Texts.{value_text, sources_line, result_text, cores_text, distances_text, cover_text, witness_of_columns}
 use Rattle.jul_witness.specs.Roles.{said_places, said_sources}
-use Rattle.jul_witness.specs.Reading.{columns_said, witness_of, read_tokens, reads_witness}
+use Rattle.jul_witness.specs.Reading.{columns_said, read_tokens, reads_witness}
 use Rattle.jul_witness.proofs.PartLaws.{AreWords, number_fits, no_parts, source_parts, line_parts, texts-result_text, sources_short, result_text-short}
 use Rattle.jul_witness.proofs.ReadBackLaws.{IsEntry, AreEntries, places_back, sources_back, sources_named, nothing_named, reads_back, column_back}
 

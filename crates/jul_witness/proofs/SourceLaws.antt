@@ -1,5 +1,5 @@
 -- The sources that a text names.
-use Rattle.std.proofs.Common.{◌≡◌, ℕ, ◌+◌, ◌-◌, ◌^◌, ◌<◌, ◌≤◌, true, false, List, [], ◌∷◌, ◌++◌, map, length, get_or, Some, sym, ◌∙◌, subst, ap, arith, inl, inr}
+use Rattle.std.proofs.Common.{◌≡◌, ℕ, ◌+◌, ◌-◌, ◌^◌, ◌<◌, ◌≤◌, true, false, List, [], ◌∷◌, ◌++◌, map, length, get_or, Some, sym, ◌∙◌, ap, arith, inl, inr}
 use Rattle.std.specs.List.Sorted.{IsStrictlyIncreasing}
 use Rattle.std.proofs.lemmas.Bool.{cases_lt, cond-false, ne_eqb}
 use Rattle.std.proofs.lemmas.List.{get_or_append_left, get_or-append_right, length-append}
@@ -12,7 +12,7 @@ use Rattle.jul_text.specs.Scanning.{text_at}
 use Rattle.jul_witness.specs.declared.forms.Heading.{Heading}
 use Rattle.jul_witness.specs.declared.rules.Rule.{Rule}
 use Rattle.jul_witness.specs.Forms.{has_sources}
-use Rattle.jul_witness.specs.Roles.{number_of, said_count, said_source, said_sources, front, all_tokens}
+use Rattle.jul_witness.specs.Roles.{number_of, said_count, said_source, said_sources, all_tokens}
 use Rattle.jul_witness.specs.Faults.{rule_fault, source_rule, least_source, kind_at}
 use Rattle.jul_witness.proofs.RoleLaws.{front_with_sources, kind_source}
 use Rattle.jul_witness.proofs.LawfulLaws.{number_of-within}

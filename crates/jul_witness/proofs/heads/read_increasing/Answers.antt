@@ -1,10 +1,9 @@
-use Rattle.std.proofs.Common.{◌≡◌, ◌<◌, ◌-◌, ◌^◌, ℕ, false, List, ◌+◌, ◌++◌, ◌∷◌, [], sym, ◌∙◌, subst, ap, arith}
+use Rattle.std.proofs.Common.{◌≡◌, ◌-◌, ◌^◌, ℕ, false, List, ◌+◌, ◌++◌, ◌∷◌, [], sym, ◌∙◌, subst, ap, arith}
 use Rattle.std.specs.List.Sorted.{IsStrictlyIncreasing}
 use Rattle.jul_text.specs.Tokens.{Word, tokens}
 use Rattle.jul_text.specs.Scanning.{text_at}
 use Rattle.jul_witness.specs.Roles.{said_source, number_of}
 use Rattle.jul_witness.proofs.RoleLaws.{said_is}
-use Rattle.jul_witness.proofs.LawfulLaws.{number_of-within}
 use Rattle.jul_witness.proofs.SourceLaws.{AreBelow, source_ruled, source_read, least_next, sources_push, below_push, increasing_push}
 use Rattle.jul_witness.proofs.heads.read_increasing.Goals as goal
 

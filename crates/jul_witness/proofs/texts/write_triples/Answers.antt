@@ -1,6 +1,6 @@
 use Rattle.std.proofs.Common.{ℕ, List, [], ◌∷◌, ◌++◌, length, subst, arith, append_assoc}
 use Rattle.std.proofs.lemmas.Result.{on_ok_weaker, on_err_weaker}
-use Rattle.jul_base.specs.Sinks.{SinkState, Appended, FailedWriting, IsSent}
+use Rattle.jul_base.specs.Sinks.{SinkState, FailedWriting, IsSent}
 use Rattle.jul_base.proofs.SinkLaws.{IsSent-then, IsSent-end, FailedWriting-then, FailedWriting-longer}
 use Rattle.jul_base.proofs.SendingLaws.{on_err_holds, failed_at_end}
 use Rattle.jul_witness.specs.declared.forms.Form.TheVariants as forms
