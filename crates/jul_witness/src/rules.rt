@@ -20,7 +20,7 @@ pub(crate) struct Rule {
 }
 
 /// To be a number up to a bound.
-#[inline]
+#[inline(always)]
 pub(crate) fn up_to(bound: u64) -> Rule
     ensures { result ≡ number_up_to bound }
 {
@@ -57,7 +57,7 @@ pub(crate) fn source(least: u64) -> Rule
 }
 
 /// To be a number of a column.
-#[inline]
+#[inline(always)]
 pub(crate) fn entry(form: Form) -> Rule
     ensures { result ≡ entry_rule form }
 {

@@ -35,7 +35,7 @@ pub(crate) fn fault(kind: WitnessKind, token: usize, at: usize) -> WitnessFault
 }
 
 // A token of this shape as a number up to a bound, as `read_number` says it.
-#[inline]
+#[inline(always)]
 fn numeral_of(token: &[u8], what: Shape, bound: u64) -> Numeral
     requires { what ≡ shape token.now }
 
@@ -46,7 +46,7 @@ fn numeral_of(token: &[u8], what: Shape, bound: u64) -> Numeral
 }
 
 // A token of this shape as a number up to a bound, a minus sign as `NONE` where it may stand.
-#[inline]
+#[inline(always)]
 fn number_up_to(token: &[u8], what: Shape, dash: bool, bound: u64) -> Option<u64>
     requires { what ≡ shape token.now }
 
@@ -62,7 +62,7 @@ fn number_up_to(token: &[u8], what: Shape, dash: bool, bound: u64) -> Option<u64
 }
 
 /// The next token as a number of a rule.
-#[inline]
+#[inline(always)]
 pub(crate) fn next_value(
     bytes: &[u8],
     place: Place,
@@ -100,7 +100,7 @@ pub(crate) fn next_value(
 }
 
 /// The next token as a number of a column.
-#[inline]
+#[inline(always)]
 #[tactic(auto, using(crate::proofs::RoleLaws::roles))]
 pub(crate) fn next_entry(
     bytes: &[u8],
