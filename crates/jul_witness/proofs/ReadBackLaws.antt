@@ -20,8 +20,10 @@ use Rattle.jul_text.proofs.LineLaws.{texts}
 use Rattle.jul_text.proofs.NumeralLaws.{decimal_digits, numeral-decimal}
 use Rattle.jul_witness.specs.declared.forms.Form.{Form}
 use Rattle.jul_witness.specs.declared.forms.Form.TheVariants as forms
+use Rattle.jul_witness.specs.declared.forms.Version.TheVariants.{Second}
+use Rattle.jul_witness.specs.declared.forms.Heading.{Heading}
 use Rattle.jul_witness.specs.declared.rules.Rule.{Rule}
-use Rattle.jul_witness.specs.Forms.{word_of, written, heading_of, columns_of, takes_dash, are_distances}
+use Rattle.jul_witness.specs.Forms.{word_of, heading_of, columns_of, takes_dash, are_distances}
 use Rattle.jul_witness.specs.Texts.{value_text}
 use Rattle.jul_witness.specs.Roles.{value_of, number_of, said_vertices, said_places, said_count, said_source, said_sources, front, all_tokens}
 use Rattle.jul_witness.specs.Faults.{low_fault, rule_fault, up_to, count_rule, source_rule, entry_rule, least_source, kind_at}
@@ -134,6 +136,10 @@ text_at-texts : (ws : List Word) (j : ℕ) → text_at ws j ≡ get_or (texts ws
 text_at-texts [] j = refl
 text_at-texts (w ∷ ws) zero = refl
 text_at-texts (w ∷ ws) (suc j) = text_at-texts ws j
+
+-- what the word says that is written
+abbrev pub written : Form → Heading
+written form = record { form = form; version = Second }
 
 heading_of-word : (form : Form) → heading_of (word_of form) ≡ Some (written form)
 heading_of-word forms.Cores = refl

@@ -14,13 +14,13 @@ use Rattle.jul_witness.specs.declared.forms.Form.TheVariants as forms
 use Rattle.jul_witness.specs.declared.witnesses.Columns.{Columns}
 use Rattle.jul_witness.specs.declared.witnesses.Columns.TheVariants as results
 use Rattle.jul_witness.specs.declared.witnesses.Witness.{Witness}
-use Rattle.jul_witness.specs.Forms.{written, takes_dash}
+use Rattle.jul_witness.specs.Forms.{takes_dash}
 use Rattle.jul_witness.specs.Lawful.{AreLawfulCores, AreLawfulDistances, IsLawfulCover}
 use Rattle.jul_witness.specs.Texts.{value_text, sources_line, result_text, cores_text, distances_text, cover_text, witness_of_columns}
 use Rattle.jul_witness.specs.Roles.{said_places, said_sources}
 use Rattle.jul_witness.specs.Reading.{columns_said, read_tokens, reads_witness}
 use Rattle.jul_witness.proofs.PartLaws.{AreWords, number_fits, no_parts, source_parts, line_parts, texts-result_text, sources_short, result_text-short}
-use Rattle.jul_witness.proofs.ReadBackLaws.{IsEntry, AreEntries, places_back, sources_back, sources_named, nothing_named, reads_back, column_back}
+use Rattle.jul_witness.proofs.ReadBackLaws.{written, IsEntry, AreEntries, places_back, sources_back, sources_named, nothing_named, reads_back, column_back}
 
 abbrev Fit : List ℕ → Type 0
 Fit xs = All (λ x. x < 2 ^ 64) xs

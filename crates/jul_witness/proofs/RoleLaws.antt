@@ -41,9 +41,6 @@ front_without heading ws e =
 pub sizes_with_places : (heading : Heading) → has_places heading.version ≡ true → sizes_end heading ≡ 3
 sizes_with_places heading e = cond-true _ _ _ e
 
-pub sizes_without : (heading : Heading) → has_places heading.version ≡ false → sizes_end heading ≡ 2
-sizes_without heading e = cond-false _ _ _ e
-
 pub all_tokens_is : (heading : Heading) (ws : List Word) (k n : ℕ) → columns_of heading.form ≡ k → said_vertices ws ≡ n → all_tokens heading ws ≡ front heading ws + k * n
 all_tokens_is heading ws k n a b = ap (λ c. front heading ws + c * said_vertices ws) a ∙ ap (λ m. front heading ws + k * m) b
 

@@ -12,9 +12,9 @@ use Rattle.jul_text.specs.Scanning.{text_at}
 use Rattle.jul_witness.specs.declared.forms.Heading.{Heading}
 use Rattle.jul_witness.specs.declared.rules.Rule.{Rule}
 use Rattle.jul_witness.specs.Forms.{has_sources}
-use Rattle.jul_witness.specs.Roles.{number_of, said_count, said_source, said_sources, all_tokens}
+use Rattle.jul_witness.specs.Roles.{number_of, said_count, said_source, said_sources}
 use Rattle.jul_witness.specs.Faults.{rule_fault, source_rule, least_source, kind_at}
-use Rattle.jul_witness.proofs.RoleLaws.{front_with_sources, kind_source}
+use Rattle.jul_witness.proofs.RoleLaws.{kind_source}
 use Rattle.jul_witness.proofs.LawfulLaws.{number_of-within}
 
 -- what is asked of the next token, which is a source
@@ -26,9 +26,6 @@ source_ruled heading ws i j least rule named lt place low is =
     ∙ kind_source heading ws i named lt
     ∙ ap (λ (r : Rule). rule_fault r (text_at ws (4 + i))) meant
     ∙ ap (λ (k : ℕ). rule_fault rule (text_at ws k)) (sym place)
-
-pub source_asked : (heading : Heading) (ws : List Word) (i j : ℕ) → has_sources heading ≡ true → i < said_count ws → j ≡ 4 + i → j < all_tokens heading ws
-source_asked heading ws i j named lt place = omega (arith, place, lt, front_with_sources heading ws named)
 
 -- a token that was read as a source
 pub record IsSource (least : ℕ) (text : List ℕ) (x : ℕ) : Type 0 where

@@ -13,10 +13,6 @@ word_of forms.Cores = codes "Cores2"
 word_of forms.Distances = codes "Distances2"
 word_of forms.Cover = codes "Cover2"
 
--- what is read behind it
-abbrev pub written : Form → Heading
-written form = record { form = form; version = Second }
-
 -- what a word says
 abbrev pub heading_of : List ℕ → Option Heading
 heading_of text =
