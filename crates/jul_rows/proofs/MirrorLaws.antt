@@ -14,7 +14,7 @@ use Rattle.jul_base.specs.Graph.{vertices, places, row, row_start, row_end, coun
 use Rattle.jul_base.specs.Symmetry.{IsSymmetric}
 use Rattle.jul_base.proofs.GraphLaws.{row_end-next, row_end-last, row_start-le, row_end-le, row_start-le-row_end}
 use Rattle.jul_base.proofs.RowLaws.{row_end-le-row_start, length-row}
-use Rattle.jul_rows.specs.Mirrors.{count_in, IsRearranged, IsRearrangedTo, HasTaken, HaveTaken, AreUsedUp, AreMirrored, AreWindows}
+use Rattle.jul_rows.specs.Mirrors.{count_in, IsRearranged, IsRearrangedTo, HasTaken, HaveTaken, AreUsedUp, AreMirrored}
 
 -- ---- parts of a list
 
@@ -267,27 +267,16 @@ module _ (g : RawGraph) (lawful : IsLawful g) where
 -- ---- windows
 
 module _ (g : RawGraph) where
+  -- two windows, one behind the other
+  pub mirrored_both : (from between to : ℕ) → AreMirrored g from between → AreMirrored g between to → AreMirrored g from to
+  mirrored_both from between to before after u w less ge lt w_lt = elim (cases_lt w between) [
+    | inl early ↦ before u w less ge early w_lt
+    | inr late ↦ after u w less late lt w_lt
+  ]
+
   pub mirrored_symmetric : AreMirrored g 0 (vertices g) → IsSymmetric g
   mirrored_symmetric are u w u_lt w_lt = elim (cases_order u w) [
     | inl same ↦ let P : ℕ → Type 0 = λ k. count g u k ≡ count g k u in subst P same refl
     | inr (inl less) ↦ are u w less (omega arith) w_lt w_lt
     | inr (inr more) ↦ sym (are w u more (omega arith) u_lt u_lt)
   ]
-
-  pub mirrored_both : (from to : ℕ) → AreMirrored g 0 from → AreMirrored g from to → AreMirrored g 0 to
-  mirrored_both from to before after u w less ge lt w_lt = elim (cases_lt w from) [
-    | inl early ↦ before u w less ge early w_lt
-    | inr late ↦ after u w less late lt w_lt
-  ]
-
-  before_bound : (windows : ℕ) (bounds : List ℕ) → AreWindows g windows bounds → ((i : ℕ) → i < windows → AreMirrored g (get_or bounds i 0) (get_or bounds (i + 1) 0)) →
-      (i : ℕ) → i ≤ windows → AreMirrored g 0 (get_or bounds i 0)
-  before_bound windows bounds are each zero le = λ u w less ge lt w_lt. absurd (omega (arith, lt, are.first))
-  before_bound windows bounds are each (suc i) le =
-      let next : i + 1 ≡ suc i = omega arith in
-      subst (λ j. AreMirrored g 0 (get_or bounds j 0)) next
-      (mirrored_both (get_or bounds i 0) (get_or bounds (i + 1) 0) (before_bound windows bounds are each i (omega (arith, le))) (each i (omega (arith, le))))
-
-  pub windows_symmetric : (windows : ℕ) (bounds : List ℕ) → AreWindows g windows bounds → ((i : ℕ) → i < windows → AreMirrored g (get_or bounds i 0) (get_or bounds (i + 1) 0)) → IsSymmetric g
-  windows_symmetric windows bounds are each =
-      mirrored_symmetric (subst (AreMirrored g 0) are.last (before_bound windows bounds are each windows (omega arith)))

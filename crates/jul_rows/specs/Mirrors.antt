@@ -25,7 +25,7 @@ pub record HasTaken (u from : ℕ) (row mirror old new : List ℕ) : Type 0 wher
   pub grows : (k : ℕ) → k < length old → slice_index old k ≤ slice_index new k
   pub within : (k : ℕ) → k < length old → slice_index new k ≤ length mirror
   pub taken :
-    (k : ℕ) → k < length old → u < from + k → count_by (λ x. x == from + k) row ≡ count_in mirror (slice_index old k) (slice_index new k) u
+      (k : ℕ) → k < length old → u < from + k → count_by (λ x. x == from + k) row ≡ count_in mirror (slice_index old k) (slice_index new k) u
   pub others : (k x : ℕ) → k < length old → x ≢ u → count_in mirror (slice_index old k) (slice_index new k) x ≡ 0
 
 -- the places of the rows before v to greater vertices of the window took entries: of each those from the start of its row to its mark
@@ -35,7 +35,7 @@ pub record HaveTaken (g : RawGraph) (from to : ℕ) (mirror : List ℕ) (v : ℕ
   pub starts : (k : ℕ) → k < length next → row_start g (from + k) ≤ slice_index next k
   pub within : (k : ℕ) → k < length next → slice_index next k ≤ length mirror
   pub taken :
-    (u k : ℕ) → u < v → u < from + k → k < length next → count g u (from + k) ≡ count_in mirror (row_start g (from + k)) (slice_index next k) u
+      (u k : ℕ) → u < v → u < from + k → k < length next → count g u (from + k) ≡ count_in mirror (row_start g (from + k)) (slice_index next k) u
   pub later : (u k : ℕ) → v ≤ u → k < length next → count_in mirror (row_start g (from + k)) (slice_index next k) u ≡ 0
 
 -- of each of so many vertices of the window no mark is past the end of its row, and what stands from there on is not below it
@@ -46,11 +46,3 @@ pub record AreUsedUp (g : RawGraph) (from : ℕ) (mirror next : List ℕ) (many 
 -- each vertex of the window from `from` up to `to` and each lesser one stand in one another's row equally often
 abbrev pub AreMirrored : RawGraph → ℕ → ℕ → Type 0
 AreMirrored g from to = (u w : ℕ) → u < w → from ≤ w → w < to → w < vertices g → count g u w ≡ count g w u
-
--- so many windows, from each bound up to the next, which together have all vertices
-pub record AreWindows (g : RawGraph) (windows : ℕ) (bounds : List ℕ) : Type 0 where
-  pub size : length bounds ≡ windows + 1
-  pub first : slice_index bounds 0 ≡ 0
-  pub last : slice_index bounds windows ≡ vertices g
-  pub rising : (i : ℕ) → i < windows → slice_index bounds i ≤ slice_index bounds (i + 1)
-  pub within : (i : ℕ) → i ≤ windows → slice_index bounds i ≤ vertices g
