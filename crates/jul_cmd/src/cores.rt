@@ -11,12 +11,16 @@ ghost use Rattle.jul_cmd.specs.Parts.{IsUnsolved};
 use crate::resources::Resources;
 use crate::statuses::Status;
 use jul_base::{Cores, Gate, MAX_N};
-use jul_core::cores_of;
+use jul_core::{cores_of, is_found_symmetric};
 use jul_rows::Rows;
 use std::thread::Threads;
 
-// Whether the graph is symmetric, or the refusal of its first asymmetric place.
-fn check_symmetry(rows: &Rows, is_symmetric: bool) -> Result<(), Status>
+// Whether the graph is symmetric, or the refusal of its first asymmetric place. Several workers first try to find it symmetric.
+fn check_symmetry<R: Threads + Sync, G: Gate>(
+    resources: &Resources<'_, '_, R, G>,
+    rows: &Rows,
+    is_symmetric: bool,
+) -> Result<(), Status>
     requires { IsTrue is_symmetric → IsSymmetric rows.now }
 
     ensures suited { OnOk result (IsSymmetric rows.now × IsSuited rows.now cores) }
@@ -24,6 +28,11 @@ fn check_symmetry(rows: &Rows, is_symmetric: bool) -> Result<(), Status>
 {
     prove!(rows.n() <= MAX_N);
     if is_symmetric {
+        return Ok(());
+    }
+    if resources.team.workers > 1
+        && is_found_symmetric(resources.rt, resources.alloc, &resources.team, rows)?
+    {
         return Ok(());
     }
     match rows.first_asymmetry()? {
@@ -47,7 +56,7 @@ pub fn find_cores<R: Threads + Sync, G: Gate>(
     ensures refused { IfErr result (IsUnsolved rows.now cores) }
 {
     prove!(rows.n() <= MAX_N);
-    check_symmetry(rows, is_symmetric)?;
+    check_symmetry(resources, rows, is_symmetric)?;
     let found = cores_of(
         resources.rt,
         resources.alloc,

@@ -15,3 +15,4 @@ pub mod Rows
 pub mod StateLaws
 pub mod MovingLaws
 pub mod TurnLaws
+pub mod WindowLaws

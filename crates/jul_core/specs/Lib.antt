@@ -3,3 +3,4 @@ pub mod Peels
 pub mod PeelPlaces
 pub mod PeelMoves
 pub mod PeelWork
+pub mod Windows

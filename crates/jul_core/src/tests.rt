@@ -7,7 +7,8 @@ ghost use Rattle.jul_words.specs.Seats.{rooted, zeros};
 ghost use Rattle.jul_core.specs.Peels.{AreDegrees};
 
 use crate::columns::degrees;
-use crate::{cores_of, peel};
+use crate::symmetry::are_windows_mirrored;
+use crate::{cores_of, is_found_symmetric, peel};
 use jul_base::{Gate, Ids, MAX_N, OpenGate, RawGraph};
 use jul_bucket::{Buckets, Order};
 use jul_pool::Team;
@@ -153,6 +154,21 @@ fn a_vertex_that_hangs_on_a_triangle_goes_first(rt: HostRuntime) -> Result<(), F
     };
     let cores = cores_of(&rt, rt.alloc(), &team, &rows, 1)?;
     assert_eq!(rt; cores.core.as_slice(), columns.0);
+    Ok(())
+}
+
+#[test]
+fn a_symmetric_graph_is_found_symmetric_in_windows(rt: HostRuntime) -> Result<(), Fail> {
+    let rows = triangles(&rt, rt.alloc())?;
+    for workers in [1u32, 2, 3, 7] {
+        let team = Team {
+            workers,
+            chunk: 1,
+            gate: &OpenGate,
+        };
+        assert!(rt; are_windows_mirrored(&rt, rt.alloc(), &team, &rows)?, "{workers} workers");
+        assert!(rt; is_found_symmetric(&rt, rt.alloc(), &team, &rows)?, "{workers} workers");
+    }
     Ok(())
 }
 

@@ -3,7 +3,7 @@ use Rattle.std.proofs.Common.{◌≡◌, ◌≢◌, ℕ, zero, suc, ◌+◌, ◌
 use Rattle.std.specs.Prelude.{slice_range, All}
 use Rattle.std.specs.List.{count_by, sum_by}
 use Rattle.std.specs.List.Sorted.{IsPermutation}
-use Rattle.std.proofs.lemmas.Bool.{cases_eq, cases_order, eq-eqb, ne_eqb}
+use Rattle.std.proofs.lemmas.Bool.{cases_eq, cases_lt, cases_order, eq-eqb, ne_eqb}
 use Rattle.std.proofs.lemmas.List.{get_or-set_same, get_or-set_other, length-set, length-append, take_all, take-append-le, drop-append-le, drop_all}
 use Rattle.std.proofs.lemmas.List.Edits.{between_more}
 use Rattle.std.proofs.lemmas.List.Sums.{sum_by-append, sum_by-cons, count_by_more_yes, count_by_more_no}
@@ -14,7 +14,7 @@ use Rattle.jul_base.specs.Graph.{vertices, places, row, row_start, row_end, coun
 use Rattle.jul_base.specs.Symmetry.{IsSymmetric}
 use Rattle.jul_base.proofs.GraphLaws.{row_end-next, row_end-last, row_start-le, row_end-le, row_start-le-row_end}
 use Rattle.jul_base.proofs.RowLaws.{row_end-le-row_start, length-row}
-use Rattle.jul_rows.specs.Mirrors.{count_in, IsRearranged, IsRearrangedTo, HasTaken, HaveTaken, AreUsedUp}
+use Rattle.jul_rows.specs.Mirrors.{count_in, IsRearranged, IsRearrangedTo, HasTaken, HaveTaken, AreUsedUp, AreMirrored}
 
 -- ---- parts of a list
 
@@ -54,101 +54,103 @@ in_two xs i j k x le le' within =
 
 -- ---- one row
 
-pub taken_none : (u : ℕ) (row mirror old : List ℕ) → ((w : ℕ) → w < length old → get_or old w 0 ≤ length mirror) → HasTaken u (take 0 row) mirror old old
-taken_none u row mirror old within = record {
+pub taken_none : (u from : ℕ) (row mirror old : List ℕ) → ((k : ℕ) → k < length old → get_or old k 0 ≤ length mirror) → HasTaken u from (take 0 row) mirror old old
+taken_none u from row mirror old within = record {
   size = refl;
-  grows = λ w lt. omega arith;
+  grows = λ k lt. omega arith;
   within = within;
-  taken = λ w lt above. sym (count_in-none mirror (get_or old w 0) u);
-  others = λ w x lt other. count_in-none mirror (get_or old w 0) x;
+  taken = λ k lt above. sym (count_in-none mirror (get_or old k 0) u);
+  others = λ k x lt other. count_in-none mirror (get_or old k 0) x;
 }
 
--- an entry that isn't above u takes nothing
-pub taken_below : (u : ℕ) (row mirror old now : List ℕ) (i w : ℕ) → HasTaken u (take i row) mirror old now → i < length row → w ≡ get_or row i 0 → w ≤ u → HasTaken u (take (i + 1) row) mirror old now
-taken_below u row mirror old now i w h lt w_is le = record {
+-- an entry that isn't above u, or isn't in the window, takes nothing
+pub taken_other : (u from : ℕ) (row mirror old now : List ℕ) (i w : ℕ) → HasTaken u from (take i row) mirror old now → i < length row → w ≡ get_or row i 0 →
+    ((k : ℕ) → k < length old → u < from + k → w ≢ from + k) → HasTaken u from (take (i + 1) row) mirror old now
+taken_other u from row mirror old now i w h lt w_is outside = record {
   size = h.size;
   grows = h.grows;
   within = h.within;
-  taken = λ v v_lt above.
-      count_by_more_no (λ x. eqb x v) row i 0 lt (ne_eqb (get_or row i 0) v (λ e. omega (arith, w_is, e, le, above))) ∙ h.taken v v_lt above;
+  taken = λ k k_lt above.
+      count_by_more_no (λ x. eqb x (from + k)) row i 0 lt (ne_eqb (get_or row i 0) (from + k) (λ e. outside k k_lt above (w_is ∙ e)))
+      ∙ h.taken k k_lt above;
   others = h.others;
 }
 
-pub taken_more : (u : ℕ) (row mirror old now : List ℕ) (i w at : ℕ) → HasTaken u (take i row) mirror old now → i < length row → w ≡ get_or row i 0 → w < length old → at ≡ get_or now w 0 →
-    at < length mirror → get_or mirror at 0 ≡ u → HasTaken u (take (i + 1) row) mirror old (set now w (at + 1))
-taken_more u row mirror old now i w at h lt w_is in_range at_is inside found = record {
-  size = length-set now w (at + 1) ∙ h.size;
-  grows = λ v v_lt. elim (cases_eq w v) [
-    | inl same ↦ omega (arith, here v same, h.grows w in_range, at_is, ap (λ k. get_or old k 0) same)
-    | inr other ↦ omega (arith, there v other, h.grows v v_lt)
+pub taken_more : (u from : ℕ) (row mirror old now : List ℕ) (i k at : ℕ) → HasTaken u from (take i row) mirror old now → i < length row → from + k ≡ get_or row i 0 → k < length old → at ≡ get_or now k 0 →
+    at < length mirror → get_or mirror at 0 ≡ u → HasTaken u from (take (i + 1) row) mirror old (set now k (at + 1))
+taken_more u from row mirror old now i k at h lt w_is in_window at_is inside found = record {
+  size = length-set now k (at + 1) ∙ h.size;
+  grows = λ j j_lt. elim (cases_eq k j) [
+    | inl same ↦ omega (arith, here j same, h.grows k in_window, at_is, ap (λ i. get_or old i 0) same)
+    | inr other ↦ omega (arith, there j other, h.grows j j_lt)
   ];
-  within = λ v v_lt. elim (cases_eq w v) [
-    | inl same ↦ omega (arith, here v same, inside)
-    | inr other ↦ omega (arith, there v other, h.within v v_lt)
+  within = λ j j_lt. elim (cases_eq k j) [
+    | inl same ↦ omega (arith, here j same, inside)
+    | inr other ↦ omega (arith, there j other, h.within j j_lt)
   ];
-  taken = λ v v_lt above. elim (cases_eq w v) [
+  taken = λ j j_lt above. elim (cases_eq k j) [
     | inl same ↦
-        let P : ℕ → Type 0 = λ k. count_by (λ x. eqb x k) (take (i + 1) row) ≡ count_in mirror (get_or old k 0) (get_or (set now w (at + 1)) k 0) u in
+        let P : ℕ → Type 0 = λ j. count_by (λ x. eqb x (from + j)) (take (i + 1) row) ≡ count_in mirror (get_or old j 0) (get_or (set now k (at + 1)) j 0) u in
         subst P same (omega (
           arith,
-          count_by_more_yes (λ x. eqb x w) row i 0 lt (eq-eqb (get_or row i 0) w (sym w_is)),
-          h.taken w in_range (omega (arith, above, same)),
-          ap (λ k. count_in mirror (get_or old w 0) k u) (sym at_is),
+          count_by_more_yes (λ x. eqb x (from + k)) row i 0 lt (eq-eqb (get_or row i 0) (from + k) (sym w_is)),
+          h.taken k in_window (omega (arith, above, same)),
+          ap (λ e. count_in mirror (get_or old k 0) e u) (sym at_is),
           one_more u,
           ap {B = ℕ} (λ b. cond b 1 0) (eq-eqb (get_or mirror at 0) u found),
         ))
     | inr other ↦ omega (
       arith,
-      count_by_more_no (λ x. eqb x v) row i 0 lt (ne_eqb (get_or row i 0) v (λ e. other (w_is ∙ e))),
-      h.taken v v_lt above,
-      ap (λ k. count_in mirror (get_or old v 0) k u) (there v other),
+      count_by_more_no (λ x. eqb x (from + j)) row i 0 lt (ne_eqb (get_or row i 0) (from + j) (λ e. other (omega (arith, w_is, e)))),
+      h.taken j j_lt above,
+      ap (λ e. count_in mirror (get_or old j 0) e u) (there j other),
     )
   ];
-  others = λ v x v_lt apart. elim (cases_eq w v) [
+  others = λ j x j_lt apart. elim (cases_eq k j) [
     | inl same ↦
-        let P : ℕ → Type 0 = λ k. count_in mirror (get_or old k 0) (get_or (set now w (at + 1)) k 0) x ≡ 0 in
+        let P : ℕ → Type 0 = λ j. count_in mirror (get_or old j 0) (get_or (set now k (at + 1)) j 0) x ≡ 0 in
         subst P same (omega (
           arith,
-          h.others w x in_range apart,
-          ap (λ k. count_in mirror (get_or old w 0) k x) (sym at_is),
+          h.others k x in_window apart,
+          ap (λ e. count_in mirror (get_or old k 0) e x) (sym at_is),
           one_more x,
           ap {B = ℕ} (λ b. cond b 1 0) (ne_eqb (get_or mirror at 0) x (λ e. apart (sym e ∙ found))),
         ))
-    | inr other ↦ omega (arith, h.others v x v_lt apart, ap (λ k. count_in mirror (get_or old v 0) k x) (there v other))
+    | inr other ↦ omega (arith, h.others j x j_lt apart, ap (λ e. count_in mirror (get_or old j 0) e x) (there j other))
   ];
 } where
-  in_now : w < length now
-  in_now = omega (arith, in_range, h.size)
+  in_now : k < length now
+  in_now = omega (arith, in_window, h.size)
 
-  here : (v : ℕ) → w ≡ v → get_or (set now w (at + 1)) v 0 ≡ at + 1
-  here v same = ap (λ k. get_or (set now w (at + 1)) k 0) (sym same) ∙ get_or-set_same now w (at + 1) 0 in_now
+  here : (j : ℕ) → k ≡ j → get_or (set now k (at + 1)) j 0 ≡ at + 1
+  here j same = ap (λ i. get_or (set now k (at + 1)) i 0) (sym same) ∙ get_or-set_same now k (at + 1) 0 in_now
 
-  there : (v : ℕ) → w ≢ v → get_or (set now w (at + 1)) v 0 ≡ get_or now v 0
-  there v other = get_or-set_other now w v (at + 1) 0 (λ e. other (sym e))
+  there : (j : ℕ) → k ≢ j → get_or (set now k (at + 1)) j 0 ≡ get_or now j 0
+  there j other = get_or-set_other now k j (at + 1) 0 (λ e. other (sym e))
 
-  one_more : (x : ℕ) → count_in mirror (get_or old w 0) (get_or (set now w (at + 1)) w 0) x ≡ count_in mirror (get_or old w 0) at x + cond (eqb (get_or mirror at 0) x) 1 0
+  one_more : (x : ℕ) → count_in mirror (get_or old k 0) (get_or (set now k (at + 1)) k 0) x ≡ count_in mirror (get_or old k 0) at x + cond (eqb (get_or mirror at 0) x) 1 0
   one_more x =
-      ap (λ k. count_in mirror (get_or old w 0) k x) (get_or-set_same now w (at + 1) 0 in_now)
-      ∙ count_in-more mirror (get_or old w 0) at x (omega (arith, h.grows w in_range, at_is)) inside
+      ap (λ e. count_in mirror (get_or old k 0) e x) (get_or-set_same now k (at + 1) 0 in_now)
+      ∙ count_in-more mirror (get_or old k 0) at x (omega (arith, h.grows k in_window, at_is)) inside
 
 -- ---- all rows
 
-pub used_none : (g : RawGraph) (mirror next : List ℕ) → AreUsedUp g mirror next 0
-used_none g mirror next = record {
-  stay = λ w before lt. absurd (omega (arith, before));
-  above = λ w before lt. absurd (omega (arith, before));
+pub used_none : (g : RawGraph) (from : ℕ) (mirror next : List ℕ) → AreUsedUp g from mirror next 0
+used_none g from mirror next = record {
+  stay = λ k before. absurd (omega (arith, before));
+  above = λ k before. absurd (omega (arith, before));
 }
 
-pub used_more : (g : RawGraph) (mirror next : List ℕ) (v : ℕ) → AreUsedUp g mirror next v → get_or next v 0 ≤ row_end g v →
-    All (λ x. v ≤ x) (slice_range mirror (get_or next v 0) (row_end g v)) → AreUsedUp g mirror next (v + 1)
-used_more g mirror next v h stay above = record {
-  stay = λ w before lt. elim (cases_eq v w) [
-    | inl same ↦ let P : ℕ → Type 0 = λ k. get_or next k 0 ≤ row_end g k in subst P same stay
-    | inr other ↦ h.stay w (omega (arith, before, other)) lt
+pub used_more : (g : RawGraph) (from : ℕ) (mirror next : List ℕ) (k : ℕ) → AreUsedUp g from mirror next k → get_or next k 0 ≤ row_end g (from + k) →
+    All (λ x. from + k ≤ x) (slice_range mirror (get_or next k 0) (row_end g (from + k))) → AreUsedUp g from mirror next (k + 1)
+used_more g from mirror next k h stay above = record {
+  stay = λ j before. elim (cases_eq k j) [
+    | inl same ↦ let P : ℕ → Type 0 = λ j. get_or next j 0 ≤ row_end g (from + j) in subst P same stay
+    | inr other ↦ h.stay j (omega (arith, before, other))
   ];
-  above = λ w before lt. elim (cases_eq v w) [
-    | inl same ↦ let P : ℕ → Type 0 = λ k. All (λ x. k ≤ x) (slice_range mirror (get_or next k 0) (row_end g k)) in subst P same above
-    | inr other ↦ h.above w (omega (arith, before, other)) lt
+  above = λ j before. elim (cases_eq k j) [
+    | inl same ↦ let P : ℕ → Type 0 = λ j. All (λ x. from + j ≤ x) (slice_range mirror (get_or next j 0) (row_end g (from + j))) in subst P same above
+    | inr other ↦ h.above j (omega (arith, before, other))
   ];
 }
 
@@ -168,53 +170,56 @@ module _ (g : RawGraph) (lawful : IsLawful g) where
   start_in : (w : ℕ) → w < vertices g → row_start g w ≤ places g
   start_in w lt = row_start-le g lawful w lt
 
-  pub have_none : (mirror : List ℕ) → length mirror ≡ places g → HaveTaken g mirror 0 g.offsets
-  have_none mirror size = record {
-    size = refl;
-    from = λ w lt. omega arith;
-    within = λ w lt. omega (arith, start_in w lt, size);
-    taken = λ u w lt _ _. absurd (omega (arith, lt));
-    later = λ u w _ lt. count_in-none mirror (row_start g w) u;
+  pub have_none : (from to : ℕ) (mirror next : List ℕ) → length mirror ≡ places g → from + length next ≡ to → to ≤ vertices g →
+      ((k : ℕ) → k < length next → get_or next k 0 ≡ row_start g (from + k)) → HaveTaken g from to mirror 0 next
+  have_none from to mirror next size many inside starts = record {
+    size = many;
+    inside = inside;
+    starts = λ k lt. omega (arith, starts k lt);
+    within = λ k lt. omega (arith, start_in (from + k) (omega (arith, lt, many, inside)), size, starts k lt);
+    taken = λ u k lt _ _. absurd (omega (arith, lt));
+    later = λ u k _ lt. ap (λ e. count_in mirror (row_start g (from + k)) e u) (starts k lt) ∙ count_in-none mirror (row_start g (from + k)) u;
   }
 
-  pub have_more : (mirror : List ℕ) (u : ℕ) (next next' : List ℕ) → HaveTaken g mirror u next → u < vertices g → HasTaken u (row g u) mirror next next' → HaveTaken g mirror (u + 1) next'
-  have_more mirror u next next' h u_lt one = record {
-    size = one.size ∙ h.size;
-    from = λ w lt. omega (arith, h.from w lt, one.grows w (at w lt));
-    within = λ w lt. one.within w (at w lt);
-    taken = λ v w v_lt above lt. elim (cases_eq v u) [
+  pub have_more : (from to : ℕ) (mirror : List ℕ) (u : ℕ) (next next' : List ℕ) → HaveTaken g from to mirror u next → u < vertices g → HasTaken u from (row g u) mirror next next' →
+      HaveTaken g from to mirror (u + 1) next'
+  have_more from to mirror u next next' h u_lt one = record {
+    size = omega (arith, one.size, h.size);
+    inside = h.inside;
+    starts = λ k lt. omega (arith, h.starts k (at k lt), one.grows k (at k lt));
+    within = λ k lt. one.within k (at k lt);
+    taken = λ v k v_lt above lt. elim (cases_eq v u) [
       | inl same ↦
-          let P : ℕ → Type 0 = λ k. count g k w ≡ count_in mirror (row_start g w) (get_or next' w 0) k in
-          subst P (sym same) (omega (arith, two w u lt, h.later u w (omega arith) lt, one.taken w (at w lt) (omega (arith, above, same))))
-      | inr other ↦ omega (arith, two w v lt, h.taken v w (omega (arith, v_lt, other)) above lt, one.others w v (at w lt) other)
+          let P : ℕ → Type 0 = λ v. count g v (from + k) ≡ count_in mirror (row_start g (from + k)) (get_or next' k 0) v in
+          subst P (sym same) (omega (arith, two k u lt, h.later u k (omega arith) (at k lt), one.taken k (at k lt) (omega (arith, above, same))))
+      | inr other ↦ omega (arith, two k v lt, h.taken v k (omega (arith, v_lt, other)) above (at k lt), one.others k v (at k lt) other)
     ];
-    later = λ v w v_ge lt.
-        omega (arith, two w v lt, h.later v w (omega (arith, v_ge)) lt, one.others w v (at w lt) (λ e. omega (arith, v_ge, e)));
+    later = λ v k v_ge lt.
+        omega (arith, two k v lt, h.later v k (omega (arith, v_ge)) (at k lt), one.others k v (at k lt) (λ e. omega (arith, v_ge, e)));
   } where
-    at : (w : ℕ) → w < vertices g → w < length next
-    at w lt = omega (arith, lt, h.size)
+    at : (k : ℕ) → k < length next' → k < length next
+    at k lt = omega (arith, lt, one.size)
 
-    two : (w x : ℕ) → w < vertices g →
-        count_in mirror (row_start g w) (get_or next' w 0) x ≡ count_in mirror (row_start g w) (get_or next w 0) x + count_in mirror (get_or next w 0) (get_or next' w 0) x
-    two w x lt = in_two mirror (row_start g w) (get_or next w 0) (get_or next' w 0) x (h.from w lt) (one.grows w (at w lt)) (one.within w (at w lt))
+    two : (k x : ℕ) → k < length next' →
+        count_in mirror (row_start g (from + k)) (get_or next' k 0) x ≡ count_in mirror (row_start g (from + k)) (get_or next k 0) x + count_in mirror (get_or next k 0) (get_or next' k 0) x
+    two k x lt = in_two mirror (row_start g (from + k)) (get_or next k 0) (get_or next' k 0) x (h.starts k (at k lt)) (one.grows k (at k lt)) (one.within k (at k lt))
 
-  -- entries both ways, of a lesser and a greater vertex
-  mirrored : (mirror next : List ℕ) → IsRearranged g mirror → HaveTaken g mirror (vertices g) next → AreUsedUp g mirror next (vertices g) →
-      (u w : ℕ) → u < w → w < vertices g → count g u w ≡ count g w u
-  mirrored mirror next are h used u w less lt = omega (
+  -- entries both ways, of a lesser vertex and one of the window
+  at_mark : (from to : ℕ) (mirror next : List ℕ) → IsRearranged g mirror → HaveTaken g from to mirror to next → AreUsedUp g from mirror next (length next) →
+      (u k : ℕ) → u < from + k → k < length next → count g u (from + k) ≡ count g (from + k) u
+  at_mark from to mirror next are h used u k less lt = omega (
     arith,
-    h.taken u w (omega (arith, less, lt)) less lt,
-    in_two mirror (row_start g w) (get_or next w 0) (row_end g w) u (h.from w lt) (used.stay w lt lt) (omega (arith, row_end-le g lawful w, are.size)),
-    none_below w u (slice_range mirror (get_or next w 0) (row_end g w)) less (used.above w lt lt),
-    are.counts w u lt,
+    h.taken u k (omega (arith, less, lt, h.size)) less lt,
+    in_two mirror (row_start g (from + k)) (get_or next k 0) (row_end g (from + k)) u (h.starts k lt) (used.stay k lt) (omega (arith, row_end-le g lawful (from + k), are.size)),
+    none_below (from + k) u (slice_range mirror (get_or next k 0) (row_end g (from + k))) less (used.above k lt),
+    are.counts (from + k) u (omega (arith, lt, h.size, h.inside)),
   )
 
-  pub mirrored_symmetric : (mirror next : List ℕ) → IsRearranged g mirror → HaveTaken g mirror (vertices g) next → AreUsedUp g mirror next (vertices g) → IsSymmetric g
-  mirrored_symmetric mirror next are h used u w u_lt w_lt = elim (cases_order u w) [
-    | inl same ↦ let P : ℕ → Type 0 = λ k. count g u k ≡ count g k u in subst P same refl
-    | inr (inl less) ↦ mirrored mirror next are h used u w less w_lt
-    | inr (inr more) ↦ sym (mirrored mirror next are h used w u more u_lt)
-  ]
+  pub mirrored : (from to : ℕ) (mirror next : List ℕ) → IsRearranged g mirror → HaveTaken g from to mirror to next → AreUsedUp g from mirror next (length next) → AreMirrored g from to
+  mirrored from to mirror next are h used u w less ge lt w_lt =
+      let same : from + (w - from) ≡ w = omega (arith, ge) in
+      let P : ℕ → Type 0 = λ w. count g u w ≡ count g w u in
+      subst P same (at_mark from to mirror next are h used u (w - from) (omega (arith, less, same)) (omega (arith, lt, ge, h.size)))
 
   -- ---- sorted rows
 
@@ -258,3 +263,20 @@ module _ (g : RawGraph) (lawful : IsLawful g) where
   } where
     ends : length (mirror ++ part) ≡ row_end g v
     ends = omega (arith, length-append mirror part, h.size lt, size, length-row g lawful v, row_start-le-row_end g lawful v lt)
+
+-- ---- windows
+
+module _ (g : RawGraph) where
+  -- two windows, one behind the other
+  pub mirrored_both : (from between to : ℕ) → AreMirrored g from between → AreMirrored g between to → AreMirrored g from to
+  mirrored_both from between to before after u w less ge lt w_lt = elim (cases_lt w between) [
+    | inl early ↦ before u w less ge early w_lt
+    | inr late ↦ after u w less late lt w_lt
+  ]
+
+  pub mirrored_symmetric : AreMirrored g 0 (vertices g) → IsSymmetric g
+  mirrored_symmetric are u w u_lt w_lt = elim (cases_order u w) [
+    | inl same ↦ let P : ℕ → Type 0 = λ k. count g u k ≡ count g k u in subst P same refl
+    | inr (inl less) ↦ are u w less (omega arith) w_lt w_lt
+    | inr (inr more) ↦ sym (are w u more (omega arith) u_lt u_lt)
+  ]

@@ -1,5 +1,5 @@
 -- Places that are found mirrored: each place from u to w takes an entry u in the row of w.
-use Rattle.std.specs.Prelude.{◌≡◌, ◌≢◌, ℕ, ◌<◌, ◌≤◌, List, All, length, slice_index, slice_range, count_by, ◌==◌}
+use Rattle.std.specs.Prelude.{◌≡◌, ◌≢◌, ℕ, ◌+◌, ◌<◌, ◌≤◌, List, All, length, slice_index, slice_range, count_by, ◌==◌}
 use Rattle.jul_base.specs.declared.graphs.RawGraph.{RawGraph}
 use Rattle.jul_base.specs.Graph.{vertices, places, row_start, row_end, count}
 
@@ -18,23 +18,31 @@ pub record IsRearrangedTo (g : RawGraph) (v : ℕ) (mirror : List ℕ) : Type 0 
   pub whole : vertices g ≤ v → length mirror ≡ places g
   pub counts : (u x : ℕ) → u < v → u < vertices g → count_in mirror (row_start g u) (row_end g u) x ≡ count g u x
 
--- each entry w above u of a row took one more entry u of w: those from its old mark to its new one, and no other entry is there
-pub record HasTaken (u : ℕ) (row mirror old new : List ℕ) : Type 0 where
+-- marks of a window, the vertices from `from` on. Each of them above u took as many entries u of its row as it stands in this one:
+-- those from its old mark to its new one, and no other entry is there
+pub record HasTaken (u from : ℕ) (row mirror old new : List ℕ) : Type 0 where
   pub size : length new ≡ length old
-  pub grows : (w : ℕ) → w < length old → slice_index old w ≤ slice_index new w
-  pub within : (w : ℕ) → w < length old → slice_index new w ≤ length mirror
-  pub taken : (w : ℕ) → w < length old → u < w → count_by (λ x. x == w) row ≡ count_in mirror (slice_index old w) (slice_index new w) u
-  pub others : (w x : ℕ) → w < length old → x ≢ u → count_in mirror (slice_index old w) (slice_index new w) x ≡ 0
+  pub grows : (k : ℕ) → k < length old → slice_index old k ≤ slice_index new k
+  pub within : (k : ℕ) → k < length old → slice_index new k ≤ length mirror
+  pub taken :
+      (k : ℕ) → k < length old → u < from + k → count_by (λ x. x == from + k) row ≡ count_in mirror (slice_index old k) (slice_index new k) u
+  pub others : (k x : ℕ) → k < length old → x ≢ u → count_in mirror (slice_index old k) (slice_index new k) x ≡ 0
 
--- the places of the rows before v to greater vertices took entries: of each w those from the start of its row to its mark
-pub record HaveTaken (g : RawGraph) (mirror : List ℕ) (v : ℕ) (next : List ℕ) : Type 0 where
-  pub size : length next ≡ vertices g
-  pub from : (w : ℕ) → w < vertices g → row_start g w ≤ slice_index next w
-  pub within : (w : ℕ) → w < vertices g → slice_index next w ≤ length mirror
-  pub taken : (u w : ℕ) → u < v → u < w → w < vertices g → count g u w ≡ count_in mirror (row_start g w) (slice_index next w) u
-  pub later : (u w : ℕ) → v ≤ u → w < vertices g → count_in mirror (row_start g w) (slice_index next w) u ≡ 0
+-- the places of the rows before v to greater vertices of the window took entries: of each those from the start of its row to its mark
+pub record HaveTaken (g : RawGraph) (from to : ℕ) (mirror : List ℕ) (v : ℕ) (next : List ℕ) : Type 0 where
+  pub size : from + length next ≡ to
+  pub inside : to ≤ vertices g
+  pub starts : (k : ℕ) → k < length next → row_start g (from + k) ≤ slice_index next k
+  pub within : (k : ℕ) → k < length next → slice_index next k ≤ length mirror
+  pub taken :
+      (u k : ℕ) → u < v → u < from + k → k < length next → count g u (from + k) ≡ count_in mirror (row_start g (from + k)) (slice_index next k) u
+  pub later : (u k : ℕ) → v ≤ u → k < length next → count_in mirror (row_start g (from + k)) (slice_index next k) u ≡ 0
 
--- of each w before v no mark is past the end of its row, and what stands from there on is not below w
-pub record AreUsedUp (g : RawGraph) (mirror next : List ℕ) (v : ℕ) : Type 0 where
-  pub stay : (w : ℕ) → w < v → w < vertices g → slice_index next w ≤ row_end g w
-  pub above : (w : ℕ) → w < v → w < vertices g → All (λ x. w ≤ x) (slice_range mirror (slice_index next w) (row_end g w))
+-- of each of so many vertices of the window no mark is past the end of its row, and what stands from there on is not below it
+pub record AreUsedUp (g : RawGraph) (from : ℕ) (mirror next : List ℕ) (many : ℕ) : Type 0 where
+  pub stay : (k : ℕ) → k < many → slice_index next k ≤ row_end g (from + k)
+  pub above : (k : ℕ) → k < many → All (λ x. from + k ≤ x) (slice_range mirror (slice_index next k) (row_end g (from + k)))
+
+-- each vertex of the window from `from` up to `to` and each lesser one stand in one another's row equally often
+abbrev pub AreMirrored : RawGraph → ℕ → ℕ → Type 0
+AreMirrored g from to = (u w : ℕ) → u < w → from ≤ w → w < to → w < vertices g → count g u w ≡ count g w u

@@ -4,14 +4,32 @@
 //! time, and each entry below `w` is taken at the end, edges lead there as often as back. In a symmetric graph with sorted
 //! rows it is so, since the vertices come in order. Rows that aren't sorted are copied and sorted first. A no says nothing of
 //! the graph.
+//!
+//! The `w` may be those of a window of vertices alone. Windows share nothing, so each may be tested by a thread of its own.
 ghost use Rattle.std.specs.Prelude.{◌≡◌, ℕ, ◌+◌, ◌<◌, ◌≤◌, ◌^◌, true, length, slice_index, All, IfOk, OnOk, IsTrue};
+ghost use Rattle.jul_base.specs.declared.limits.TheConstants.{MAX_N};
 ghost use Rattle.jul_base.specs.Graph.{vertices, places, IsLawful};
 ghost use Rattle.jul_base.specs.Symmetry.{IsSymmetric};
-ghost use Rattle.jul_rows.specs.Mirrors.{IsRearranged, IsRearrangedTo, HasTaken, AreUsedUp};
+ghost use Rattle.jul_rows.specs.Mirrors.{IsRearranged, IsRearrangedTo, HasTaken, AreUsedUp, AreMirrored};
 
 use crate::out_rows::Rows;
-use jul_base::MAX_M;
+use jul_base::{MAX_M, MAX_N};
 use std::alloc::{AllocError, Global};
+
+impl Rows {
+    /// Whether each vertex from `from` up to but not including `to` was found in the row of each lesser one as often as that
+    /// one in its own. A yes implies that it is so. In a symmetric graph whose rows are sorted the answer is yes.
+    ///
+    /// Reads the rows before `to`, and takes memory for a number a vertex of the window, which it gives back.
+    pub fn is_window_mirrored(&self, from: u32, to: u32) -> Result<bool, AllocError>
+        requires ordered { from ≤ to }
+        requires within { to ≤ vertices self.now }
+
+        ensures { IfOk result (λ found. IsTrue found → AreMirrored self.now from to) }
+    {
+        takes_each(self, self.raw().targets.as_slice(), from, to)
+    }
+}
 
 /// Whether each place was found mirrored. A yes implies that the graph is symmetric.
 ///
@@ -19,12 +37,11 @@ use std::alloc::{AllocError, Global};
 pub(crate) fn is_mirrored(rows: &Rows) -> Result<bool, AllocError>
     ensures { IfOk result (λ found. IsTrue found → IsSymmetric rows.now) }
 {
-    let alloc = rows.raw().targets.allocator();
-    if takes_each(alloc, rows, rows.raw().targets.as_slice())? {
+    if rows.is_window_mirrored(0, rows.n())? {
         return Ok(true);
     }
-    let sorted = sorted_rows(alloc, rows)?;
-    takes_each(alloc, rows, sorted.as_slice())
+    let sorted = sorted_rows(rows.raw().targets.allocator(), rows)?;
+    takes_each(rows, sorted.as_slice(), 0, rows.n())
 }
 
 // The targets with each row sorted.
@@ -59,60 +76,72 @@ fn put_sorted(
     Ok(())
 }
 
-// Whether each place to a greater vertex takes the next entry in the mirror, and none below a row's own vertex is left.
-fn takes_each(alloc: Global, rows: &Rows, mirror: &[u32]) -> Result<bool, AllocError>
-    requires { IsRearranged rows.now mirror.now }
+// Whether each place to a greater vertex of the window takes the next entry in the mirror, and none below a row's own vertex
+// is left.
+fn takes_each(rows: &Rows, mirror: &[u32], from: u32, to: u32) -> Result<bool, AllocError>
+    requires mirror { IsRearranged rows.now mirror.now }
+    requires ordered { from ≤ to }
+    requires within { to ≤ vertices rows.now }
 
-    ensures { IfOk result (λ found. IsTrue found → IsSymmetric rows.now) }
+    ensures { IfOk result (λ found. IsTrue found → AreMirrored rows.now from to) }
 {
+    prove!(rows.n() <= MAX_N);
     prove!(rows.m() <= MAX_M);
-    let mut next = Vec::from_slice(alloc, rows.raw().offsets.as_slice())?;
-    for u in 0..rows.n() {
-        if !take_row(u, rows.row(u), mirror, next.as_mut_slice()) {
+    let offsets = &rows.raw().offsets.as_slice()[from as usize..to as usize];
+    let mut next = Vec::from_slice(rows.raw().targets.allocator(), offsets)?;
+    for u in 0..to {
+        if !take_row(u, from, rows.row(u), mirror, next.as_mut_slice()) {
             return Ok(false);
         }
     }
-    Ok(are_used_up(rows, mirror, next.as_slice()))
+    Ok(are_used_up(rows, from, mirror, next.as_slice()))
 }
 
-// Whether each entry above `u` of the row of `u` takes an entry `u`. From the marks on the entries of each vertex aren't
-// taken yet.
-fn take_row(u: u32, row: &[u32], mirror: &[u32], next: &mut [u32]) -> bool
-    requires inside { All (λ w. w < length next.old) row.now }
+// Whether each entry of the row of `u` that is above `u` and in the window takes an entry `u`. The marks are those of the
+// vertices from `from` on: from there the entries of each aren't taken yet.
+fn take_row(u: u32, from: u32, row: &[u32], mirror: &[u32], next: &mut [u32]) -> bool
+    requires vertex { u < MAX_N }
     requires few { length mirror.now < 2 ^ 32 }
-    requires within { (w : ℕ) → w < length next.old → slice_index next.old w ≤ length mirror.now }
+    requires within { (k : ℕ) → k < length next.old → slice_index next.old k ≤ length mirror.now }
 
-    ensures { IsTrue result → HasTaken u row.now mirror.now next.old next.new }
+    ensures { IsTrue result → HasTaken u from row.now mirror.now next.old next.new }
 {
+    let least = from.max(u + 1);
     for w in row {
-        if *w <= u {
+        if *w < least {
             continue;
         }
-        let at = next[*w as usize];
+        let k = (*w - from) as usize;
+        if k >= next.len() {
+            continue;
+        }
+        let at = next[k];
         if at as usize >= mirror.len() {
             return false;
         }
         if mirror[at as usize] != u {
             return false;
         }
-        next[*w as usize] = at + 1;
+        next[k] = at + 1;
     }
     true
 }
 
 // Whether no mark is past the end of its row, and no entry from a mark on is below its row's vertex.
-fn are_used_up(rows: &Rows, mirror: &[u32], next: &[u32]) -> bool
-    requires size { length next.now ≡ vertices rows.now }
+fn are_used_up(rows: &Rows, from: u32, mirror: &[u32], next: &[u32]) -> bool
+    requires inside { from + length next.now ≤ vertices rows.now }
     requires mirror { length mirror.now ≡ places rows.now }
 
-    ensures { IsTrue result → AreUsedUp rows.now mirror.now next.now (vertices rows.now) }
+    ensures { IsTrue result → AreUsedUp rows.now from mirror.now next.now (length next.now) }
 {
-    for w in 0..rows.n() {
+    prove!(rows.n() <= MAX_N);
+    for (k, at) in next.iter().enumerate() {
+        let w = from + k as u32;
         let end = rows.end_place(w);
-        if next[w as usize] > end {
+        if *at > end {
             return false;
         }
-        if !are_above(w, &mirror[next[w as usize] as usize..end as usize]) {
+        if !are_above(w, &mirror[*at as usize..end as usize]) {
             return false;
         }
     }

@@ -100,6 +100,29 @@ fn the_least_asymmetric_place_is_named(rt: HostRuntime) -> Result<(), Fail> {
     Ok(())
 }
 
+/// Whether the window was found mirrored, or not, as wanted.
+fn window_is(rows: &Rows, from: u32, to: u32, mirrored: bool) -> Result<bool, Fail> {
+    if from > to || to > rows.n() {
+        return Ok(false);
+    }
+    Ok(rows.is_window_mirrored(from, to)? == mirrored)
+}
+
+#[test]
+fn windows_are_found_mirrored(rt: HostRuntime) -> Result<(), Fail> {
+    let rows = plain(&rt, rt.alloc(), &[0, 2, 4, 7], &[1, 2, 0, 2, 0, 1, 3, 2])?;
+    for from in 0..5u32 {
+        for to in from..5 {
+            assert!(rt; window_is(&rows, from, to, true)?, "from {from} to {to}");
+        }
+    }
+    // 3 leads to 1 twice, and there is one place back; 2 lacks a place back to 3.
+    let rows = plain(&rt, rt.alloc(), &[0, 1, 3, 3], &[1, 0, 3, 1, 1, 2])?;
+    assert!(rt; window_is(&rows, 0, 3, true)? && window_is(&rows, 3, 4, false)?);
+    assert!(rt; window_is(&rows, 0, 4, false)?);
+    Ok(())
+}
+
 #[test]
 fn repeats_are_one_element(rt: HostRuntime) -> Result<(), Fail> {
     let sets = plain(&rt, rt.alloc(), &[0, 2], &[1, 1, 0, 0])?.elements()?;

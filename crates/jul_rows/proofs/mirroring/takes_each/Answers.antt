@@ -1,8 +1,8 @@
-use Rattle.std.proofs.Common.{◌≡◌, ◌+◌, ◌<◌, ℕ, List, sym, subst, arith}
+use Rattle.std.proofs.Common.{◌≡◌, ◌+◌, ◌<◌, ℕ, List, length, sym, subst, arith}
 use Rattle.jul_base.specs.Graph.{vertices, row}
 use Rattle.jul_base.proofs.ListLaws.{written}
 use Rattle.jul_rows.specs.Mirrors.{HasTaken, HaveTaken, AreUsedUp}
-use Rattle.jul_rows.proofs.MirrorLaws.{have_more, mirrored_symmetric}
+use Rattle.jul_rows.proofs.MirrorLaws.{have_more, mirrored}
 use Rattle.jul_rows.proofs.mirroring.takes_each.Goals as goal
 
 pub loop-u-preserved : goal.loop-u-preserved
@@ -10,16 +10,17 @@ loop-u-preserved c =
     let g = c.args.rows.now in
     let u : ℕ = c.loop-u.u in
     let new : List ℕ = c.take_row.new.next in
-    let in_range : u < vertices g = omega (arith, c.loop-u-test.true, c.n-u-end.ensures.count) in
-    let one : HasTaken u (row g u) c.args.mirror.now c.loop-u.next.items new =
-    subst (λ l. HasTaken u l c.args.mirror.now c.loop-u.next.items new) c.row.ensures.row
-    (subst (λ l. HasTaken u c.row.result.now c.args.mirror.now l new) c.as_mut_slice.ensures.value (c.take_row.ensures c.if-not-take_row.false)) in
-    subst (HaveTaken g c.args.mirror.now (u + 1)) (sym (written new c.loop-u.next.items c.loop-u.next.len (omega (arith, c.take_row.auto.next, c.as_mut_slice.ensures.len))))
-    (have_more g c.m.ensures.lawful c.args.mirror.now u c.loop-u.next.items new c.loop-u.invariant in_range one)
+    let in_range : u < vertices g = omega (arith, c.loop-u-test.true, c.requires.within) in
+    let one : HasTaken u c.args.from (row g u) c.args.mirror.now c.loop-u.next.items new =
+    subst (λ l. HasTaken u c.args.from l c.args.mirror.now c.loop-u.next.items new) c.row.ensures.row
+    (subst (λ l. HasTaken u c.args.from c.row.result.now c.args.mirror.now l new) c.as_mut_slice.ensures.value (c.take_row.ensures c.if-not-take_row.false)) in
+    subst (HaveTaken g c.args.from c.args.to c.args.mirror.now (u + 1)) (sym (written new c.loop-u.next.items c.loop-u.next.len (omega (arith, c.take_row.auto.next, c.as_mut_slice.ensures.len))))
+    (have_more g c.m.ensures.lawful c.args.from c.args.to c.args.mirror.now u c.loop-u.next.items new c.loop-u.invariant in_range one)
 
 pub returns : goal.returns
 returns c is_true =
     let g = c.args.rows.now in
-    let end : c.loop-u.u ≡ vertices g = omega (arith, c.loop-u-test.false, c.loop-u.auto.u-end, c.n-u-end.ensures.count) in
-    mirrored_symmetric g c.m.ensures.lawful c.args.mirror.now c.loop-u.next.items c.requires (subst (λ k. HaveTaken g c.args.mirror.now k c.loop-u.next.items) end c.loop-u.invariant)
-    (subst (λ next. AreUsedUp g c.args.mirror.now next (vertices g)) c.as_slice-2.ensures.value (c.are_used_up.ensures is_true))
+    let next = c.loop-u.next.items in
+    let end : c.loop-u.u ≡ c.args.to = omega (arith, c.loop-u-test.false, c.loop-u.auto.u-end) in
+    mirrored g c.m.ensures.lawful c.args.from c.args.to c.args.mirror.now next c.requires.mirror (subst (λ u. HaveTaken g c.args.from c.args.to c.args.mirror.now u next) end c.loop-u.invariant)
+    (subst (λ (l : List ℕ). AreUsedUp g c.args.from c.args.mirror.now l (length l)) c.as_slice-2.ensures.value (c.are_used_up.ensures is_true))
