@@ -53,6 +53,11 @@ impl<'a> EdgeFn for Relax<'a> {
         if c > MAX_SUM {
             return false;
         }
+        // The word is no greater than this, so an offer that isn't less can be left out.
+        let before = self.values[v as usize];
+        if before <= c {
+            return false;
+        }
         c < hand.words.lower(&mut hand.seat, v, c)
     }
 }
