@@ -106,16 +106,15 @@ module _ (values : List ℕ) where
 
 -- ---- all of them
 
--- a vertex that has more than the least is wanted, whether settled ones are skipped or not
-wanted_more : (skips : Bool) (least' : ℕ) (values : List ℕ) (v : ℕ) → least' < get_or values v 0 → may_fall skips least' values v ≡ true
-wanted_more true least' values v more = lt-ltb least' (get_or values v 0) more
-wanted_more false least' values v more = refl
+-- a vertex that has more than the least is wanted
+wanted_more : (least' : ℕ) (values : List ℕ) (v : ℕ) → least' < get_or values v 0 → may_fall least' values v ≡ true
+wanted_more least' values v more = lt-ltb least' (get_or values v 0) more
 
-abbrev pub IsRelaxed : Bool → Direction → RawGraph → List ℕ → List ℕ → ℕ → Seat → Seat → List ℕ → Type 0
-IsRelaxed skips by g members values least old new lowered =
-    IsMapped by g members (may_fall skips least values) (λ a answer added. Relaxes values a answer added) (old.log ∷ []) (new.log ∷ []) (listed by (vertices g) lowered)
+abbrev pub IsRelaxed : Direction → RawGraph → List ℕ → List ℕ → ℕ → Seat → Seat → List ℕ → Type 0
+IsRelaxed by g members values least old new lowered =
+    IsMapped by g members (may_fall least values) (λ a answer added. Relaxes values a answer added) (old.log ∷ []) (new.log ∷ []) (listed by (vertices g) lowered)
 
-module _ (skips : Bool) (by : Direction) (g : RawGraph) (lawful : IsLawful g) (members values : List ℕ) (least' : ℕ) (old new : Seat) (lowered : List ℕ) (home : new.home ≡ old.home) (mapped : IsRelaxed skips by g members values least' old new lowered)
+module _ (by : Direction) (g : RawGraph) (lawful : IsLawful g) (members values : List ℕ) (least' : ℕ) (old new : Seat) (lowered : List ℕ) (home : new.home ≡ old.home) (mapped : IsRelaxed by g members values least' old new lowered)
     (exact : (v : ℕ) → v < vertices g → word_of old v ≡ get_or values v 0) where
   abbrev entries : List Entry
   entries = entries_of (added_of mapped.done)
@@ -144,9 +143,9 @@ module _ (skips : Bool) (by : Direction) (g : RawGraph) (lawful : IsLawful g) (m
       let v : ℕ = target g p in
       let c : ℕ = offer values u (weight g p) in
       let a : Application = application by u p v (weight g p) in
-      let w : IsWanted by g members (may_fall skips least' values) a =
-      record { by_is = refl; member = member; place = at; target_is = refl; weight_is = refl; target_wanted = wanted_more skips least' values v more } in
-      let found : OneOf mapped.done (λ d. d.to ≡ a) = applied_to by g members (may_fall skips least' values) mapped.done lawful mapped.once a w in
+      let w : IsWanted by g members (may_fall least' values) a =
+      record { by_is = refl; member = member; place = at; target_is = refl; weight_is = refl; target_wanted = wanted_more least' values v more } in
+      let found : OneOf mapped.done (λ d. d.to ≡ a) = applied_to by g members (may_fall least' values) mapped.done lawful mapped.once a w in
       let r : Relaxes values a found.one.answer found.one.added = subst (λ b. Relaxes values b found.one.answer found.one.added) found.holds (gave found.one found.there) in
       let some : 0 < weigh (is_at v c) (first_part found.one.added) = made_entry values a found.one.answer found.one.added r within less in
       omega (arith, word_is v, least_offered v (start_of old.home v) c old.log entries (omega (arith, some, entries_have (is_at v c) mapped.done found.one found.there)))
@@ -170,7 +169,7 @@ module _ (skips : Bool) (by : Direction) (g : RawGraph) (lawful : IsLawful g) (m
       let seen : (offer_of values d.to ≤ MAX_SUM) × (0 < is_at v n (entry LOWER d.to.target (offer_of values d.to) (counted d.answer))) =
       shown values (is_at v n) d.to d.answer d.added (gave d by_one.there) by_one.holds in
       let parts : (d.to.target ≡ v) × (offer_of values d.to ≡ n) = at_parts v n (entry LOWER d.to.target (offer_of values d.to) (counted d.answer)) seen.1 in
-      let w : IsWanted by g members (may_fall skips least' values) d.to = made_wanted by g members (may_fall skips least' values) mapped.done mapped.once d by_one.there in
+      let w : IsWanted by g members (may_fall least' values) d.to = made_wanted by g members (may_fall least' values) mapped.done mapped.once d by_one.there in
       record {
         source = d.to.source;
         place = d.to.place;
@@ -196,7 +195,7 @@ module _ (skips : Bool) (by : Direction) (g : RawGraph) (lawful : IsLawful g) (m
   lowered_in v there =
       answered_true-below (vertices g) v mapped.done
       (All-from_map (λ (a : Application). a.target < vertices g) (λ (d : EdgeDone). d.to) mapped.done
-      (All-weaker (IsWanted by g members (may_fall skips least' values)) (λ (a : Application). a.target < vertices g) (λ a w. wanted_target by g members (may_fall skips least' values) a lawful w) (map (λ (d : EdgeDone). d.to) mapped.done) mapped.once.no_other))
+      (All-weaker (IsWanted by g members (may_fall least' values)) (λ (a : Application). a.target < vertices g) (λ a w. wanted_target by g members (may_fall least' values) a lawful w) (map (λ (d : EdgeDone). d.to) mapped.done) mapped.once.no_other))
       ((mapped.members_are v).0 there)
 
   pub has_relaxed : IsAlone new → IsSettled new.home new.log → length old.home.starts ≡ vertices g → All (λ u. least' ≤ get_or values u 0) members →
@@ -219,13 +218,13 @@ module _ (skips : Bool) (by : Direction) (g : RawGraph) (lawful : IsLawful g) (m
   }
 
 -- the same after a step that left the root as it was, which told that it is settled
-pub round_relaxed : (skips : Bool) (by : Direction) (g : RawGraph) (members values : List ℕ) (least' : ℕ) (old mid new : Seat) (lowered : List ℕ) → IsLawful g →
-    IsRelaxed skips by g members values least' old mid lowered → mid.home ∷ [] ≡ old.home ∷ [] → mid.root ≡ true → mid.out ≡ 0 →
+pub round_relaxed : (by : Direction) (g : RawGraph) (members values : List ℕ) (least' : ℕ) (old mid new : Seat) (lowered : List ℕ) → IsLawful g →
+    IsRelaxed by g members values least' old mid lowered → mid.home ∷ [] ≡ old.home ∷ [] → mid.root ≡ true → mid.out ≡ 0 →
     new ≡ mid → (IsAlone new → IsSettled new.home new.log) → ((v : ℕ) → v < vertices g → word_of old v ≡ get_or values v 0) → length old.home.starts ≡ vertices g → All (λ u. least' ≤ get_or values u 0) members →
     HasRelaxed g members values least' old new lowered
-round_relaxed skips by g members values least' old mid new lowered lawful mapped homes root out same settles exact words ahead =
+round_relaxed by g members values least' old mid new lowered lawful mapped homes root out same settles exact words ahead =
     let home : mid.home ≡ old.home = cc in
     let alone : IsAlone mid = (root, out) in
     let settles' : IsAlone mid → IsSettled mid.home mid.log = subst (λ (s : Seat). IsAlone s → IsSettled s.home s.log) same settles in
     subst (λ s. HasRelaxed g members values least' old s lowered) (sym same)
-    (has_relaxed skips by g lawful members values least' old mid lowered home mapped exact alone (settles' alone) words ahead)
+    (has_relaxed by g lawful members values least' old mid lowered home mapped exact alone (settles' alone) words ahead)

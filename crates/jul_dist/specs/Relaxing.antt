@@ -49,9 +49,9 @@ pub record IsOffered (g : RawGraph) (members values : List ℕ) (v c : ℕ) : Ty
   pub number_is : c ≡ offer values source (weight g place)
   pub within : c ≤ MAX_SUM
 
--- whether places that lead to v are walked: all are, or where settled vertices are skipped those to more than the least
-abbrev pub may_fall : Bool → ℕ → List ℕ → ℕ → Bool
-may_fall skips least values v = if skips then nat_lt least (slice_index values v) else true
+-- whether places that lead to v are walked: those to vertices that have more than the least
+abbrev pub may_fall : ℕ → List ℕ → ℕ → Bool
+may_fall least values v = nat_lt least (slice_index values v)
 
 -- no number above MAX_SUM was offered
 abbrev pub AreSums : List Entry → Type 0

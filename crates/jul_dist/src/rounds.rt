@@ -55,7 +55,6 @@ pub(crate) fn relax_round<R: Threads + Sync, G: Gate>(
     let f = Relax {
         values,
         least,
-        skips: in_rows.is_some(),
         words,
     };
     let hand = MinHand { words, seat };
