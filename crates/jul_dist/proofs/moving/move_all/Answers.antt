@@ -1,5 +1,4 @@
-use Rattle.std.proofs.Common.{◌≡◌, List, ℕ, ◌∙◌}
-use Rattle.jul_dist.specs.Moving.{moves_of}
+use Rattle.std.proofs.Common.{◌∙◌}
 use Rattle.jul_dist.proofs.GroupLaws.{group_can_go, group_moved, moves_in, moves_ahead}
 use Rattle.jul_dist.proofs.moving.move_all.Goals as goal
 
