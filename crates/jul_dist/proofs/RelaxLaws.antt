@@ -1,11 +1,12 @@
 -- What relaxations over the places of members leave of the words.
-use Rattle.std.proofs.Common.{◌≡◌, ℕ, ◌+◌, ◌<◌, ◌≤◌, Bool, true, false, List, [], ◌∷◌, ◌++◌, length, map, get_or, refl, sym, ap, ◌∙◌, subst, arith, inl, inr}
+use Rattle.std.proofs.Common.{◌≡◌, ◌⊎◌, ℕ, ◌+◌, ◌<◌, ◌≤◌, Bool, true, false, List, [], ◌∷◌, ◌++◌, length, map, get_or, refl, sym, ap, ◌∙◌, subst, arith, inl, inr}
 use Rattle.std.specs.Prelude.{nat_lt}
 use Rattle.std.specs.List.{Contains, All}
 use Rattle.std.proofs.lemmas.Bool.{cases_lt, lt-ltb}
 use Rattle.std.proofs.lemmas.List.Elements.{All-nil, All-cons, All-head, All-tail, All-append, All-contains, All-weaker, All-from_get_or, Contains-get_or}
 use Rattle.jul_base.specs.declared.graphs.RawGraph.{RawGraph}
 use Rattle.jul_base.specs.Graph.{vertices, target, weight, IsPlaceOf, IsLawful}
+use Rattle.jul_base.proofs.GraphLaws.{place_in_range, target_in_range}
 use Rattle.jul_base.specs.Logs.{Log, Entry, LOWER}
 use Rattle.jul_pool.specs.Added.{HasAdded, first_part, entries_of}
 use Rattle.jul_pool.proofs.PartLaws.{HasOnePart}
@@ -27,32 +28,44 @@ use Rattle.jul_dist.specs.Relaxing.{offer, offer_of, Relaxes, AreSums, IsOffered
 -- ---- one application
 
 -- a lowering is what an application may give
-pub lowered_gives : (values : List ℕ) (a : Application) (old new : Seat) (x n : ℕ) → x ≡ offer_of values a → x ≤ MAX_SUM → new ≡ logs old (lowering a.target x n) →
+pub lowered_gives : (values : List ℕ) (a : Application) (old new : Seat) (x n : ℕ) → x ≡ offer_of values a → x ≤ MAX_SUM → x < get_or values a.target 0 → new ≡ logs old (lowering a.target x n) →
     HasAdded (Relaxes values a) (old.log ∷ []) (new.log ∷ []) (nat_lt x n)
-lowered_gives values a old new x n is within logged = record {
+lowered_gives values a old new x n is within less logged = record {
   added = (lowering a.target x n ∷ []) ∷ [];
   gives_out = record {
-    made = λ _. ap (λ y. (entry LOWER a.target y (counted (nat_lt x n)) ∷ []) ∷ []) is;
+    made = λ _ _. ap (λ y. (entry LOWER a.target y (counted (nat_lt x n)) ∷ []) ∷ []) is;
     withheld = λ more. absurd (omega (arith, more, within, is));
+    idle = λ same. absurd (omega (arith, same, less, is));
   };
   log_is = ap (λ (s : Seat). s.log ∷ []) logged;
 }
 
 module _ (values : List ℕ) where
+  -- an application logs its offer, or nothing
+  made_or_none : (a : Application) (answer : Bool) (added : Log) → Relaxes values a answer added →
+      ((offer_of values a ≤ MAX_SUM) × (added ≡ (entry LOWER a.target (offer_of values a) (counted answer) ∷ []) ∷ [])) ⊎ (added ≡ [])
+  made_or_none a answer added r = elim (cases_lt MAX_SUM (offer_of values a)) [
+    | inl more ↦ inr (r.withheld more).1
+    | inr within ↦ elim (cases_lt (offer_of values a) (get_or values a.target 0)) [
+      | inl less ↦ inl (within, r.made within less)
+      | inr same ↦ inr (r.idle same).1
+    ]
+  ]
+
   one_part_each : (a : Application) (answer : Bool) (added : Log) → Relaxes values a answer added → HasOnePart added
-  one_part_each a answer added r = elim (cases_lt MAX_SUM (offer_of values a)) [
-    | inl more ↦ let none : length added ≡ 0 = ap length (r.withheld more).1 in omega arith
-    | inr within ↦ let one : length added ≡ 1 = ap length (r.made within) in omega arith
+  one_part_each a answer added r = elim (made_or_none a answer added r) [
+    | inl (within, one) ↦ let e : length added ≡ 1 = ap length one in omega arith
+    | inr none ↦ let e : length added ≡ 0 = ap length none in omega arith
   ]
 
   -- an entry of an application shows that it was made, and is its offer
   shown : (f : Entry → ℕ) (a : Application) (answer : Bool) (added : Log) → Relaxes values a answer added → 0 < weigh f (first_part added) →
       (offer_of values a ≤ MAX_SUM) × (0 < f (entry LOWER a.target (offer_of values a) (counted answer)))
-  shown f a answer added r some = elim (cases_lt MAX_SUM (offer_of values a)) [
-    | inl more ↦ let none : weigh f (first_part added) ≡ 0 = ap (λ l. weigh f (first_part l)) (r.withheld more).1 in absurd (omega arith)
-    | inr within ↦
-        let one : weigh f (first_part added) ≡ f (entry LOWER a.target (offer_of values a) (counted answer)) + 0 = ap (λ l. weigh f (first_part l)) (r.made within) in
+  shown f a answer added r some = elim (made_or_none a answer added r) [
+    | inl (within, one) ↦
+        let e : weigh f (first_part added) ≡ f (entry LOWER a.target (offer_of values a) (counted answer)) + 0 = ap (λ l. weigh f (first_part l)) one in
         (within, omega arith)
+    | inr none ↦ let e : weigh f (first_part added) ≡ 0 = ap (λ l. weigh f (first_part l)) none in absurd (omega arith)
   ]
 
   counted_true : (b : Bool) → counted b ≡ 1 → b ≡ true
@@ -66,22 +79,22 @@ module _ (values : List ℕ) where
       (counted_true answer parts.2, parts.0)
 
   -- what was offered is an entry
-  made_entry : (a : Application) (answer : Bool) (added : Log) → Relaxes values a answer added → offer_of values a ≤ MAX_SUM →
+  made_entry : (a : Application) (answer : Bool) (added : Log) → Relaxes values a answer added → offer_of values a ≤ MAX_SUM → offer_of values a < get_or values a.target 0 →
       0 < weigh (is_at a.target (offer_of values a)) (first_part added)
-  made_entry a answer added r within =
+  made_entry a answer added r within less =
       let v : ℕ = a.target in
       let c : ℕ = offer_of values a in
       let e : Entry = entry LOWER v c (counted answer) in
-      let one : weigh (is_at v c) (first_part added) ≡ is_at v c e + 0 = ap (λ l. weigh (is_at v c) (first_part l)) (r.made within) in
+      let one : weigh (is_at v c) (first_part added) ≡ is_at v c e + 0 = ap (λ l. weigh (is_at v c) (first_part l)) (r.made within less) in
       omega (arith, one, at_here v c e refl refl)
 
   -- nothing above MAX_SUM is offered
   sums_each : (a : Application) (answer : Bool) (added : Log) → Relaxes values a answer added → AreSums (first_part added)
-  sums_each a answer added r = elim (cases_lt MAX_SUM (offer_of values a)) [
-    | inl more ↦ subst (λ l. AreSums (first_part l)) (sym (r.withheld more).1) (All-nil (λ (e : Entry). e.number ≤ MAX_SUM))
-    | inr within ↦
+  sums_each a answer added r = elim (made_or_none a answer added r) [
+    | inl (within, one) ↦
         let e : Entry = entry LOWER a.target (offer_of values a) (counted answer) in
-        subst (λ l. AreSums (first_part l)) (sym (r.made within)) (All-cons (λ (e : Entry). e.number ≤ MAX_SUM) e [] within (All-nil (λ (e : Entry). e.number ≤ MAX_SUM)))
+        subst (λ l. AreSums (first_part l)) (sym one) (All-cons (λ (e : Entry). e.number ≤ MAX_SUM) e [] within (All-nil (λ (e : Entry). e.number ≤ MAX_SUM)))
+    | inr none ↦ subst (λ l. AreSums (first_part l)) (sym none) (All-nil (λ (e : Entry). e.number ≤ MAX_SUM))
   ]
 
   sums_all : (done : List EdgeDone) → All (λ (d : EdgeDone). Relaxes values d.to d.answer d.added) done → AreSums (entries_of (added_of done))
@@ -93,16 +106,16 @@ module _ (values : List ℕ) where
 
 -- ---- all of them
 
--- a vertex that has more than the least is wanted, whether settled ones are skipped or not
-wanted_more : (skips : Bool) (least' : ℕ) (values : List ℕ) (v : ℕ) → least' < get_or values v 0 → may_fall skips least' values v ≡ true
-wanted_more true least' values v more = lt-ltb least' (get_or values v 0) more
-wanted_more false least' values v more = refl
+-- a vertex that has more than the least is wanted
+wanted_more : (least' : ℕ) (values : List ℕ) (v : ℕ) → least' < get_or values v 0 → may_fall least' values v ≡ true
+wanted_more least' values v more = lt-ltb least' (get_or values v 0) more
 
-abbrev pub IsRelaxed : Bool → Direction → RawGraph → List ℕ → List ℕ → ℕ → Seat → Seat → List ℕ → Type 0
-IsRelaxed skips by g members values least old new lowered =
-    IsMapped by g members (may_fall skips least values) (λ a answer added. Relaxes values a answer added) (old.log ∷ []) (new.log ∷ []) (listed by (vertices g) lowered)
+abbrev pub IsRelaxed : Direction → RawGraph → List ℕ → List ℕ → ℕ → Seat → Seat → List ℕ → Type 0
+IsRelaxed by g members values least old new lowered =
+    IsMapped by g members (may_fall least values) (λ a answer added. Relaxes values a answer added) (old.log ∷ []) (new.log ∷ []) (listed by (vertices g) lowered)
 
-module _ (skips : Bool) (by : Direction) (g : RawGraph) (lawful : IsLawful g) (members values : List ℕ) (least' : ℕ) (old new : Seat) (lowered : List ℕ) (home : new.home ≡ old.home) (mapped : IsRelaxed skips by g members values least' old new lowered) where
+module _ (by : Direction) (g : RawGraph) (lawful : IsLawful g) (members values : List ℕ) (least' : ℕ) (old new : Seat) (lowered : List ℕ) (home : new.home ≡ old.home) (mapped : IsRelaxed by g members values least' old new lowered)
+    (exact : (v : ℕ) → v < vertices g → word_of old v ≡ get_or values v 0) where
   abbrev entries : List Entry
   entries = entries_of (added_of mapped.done)
 
@@ -123,18 +136,26 @@ module _ (skips : Bool) (by : Direction) (g : RawGraph) (lawful : IsLawful g) (m
   pub word_falls : (v : ℕ) → word_of new v ≤ word_of old v
   word_falls v = omega (arith, word_is v, least_falls v (start_of old.home v) old.log entries)
 
-  pub word_reached : (u p : ℕ) → IsPlaceOf g u p → Contains members u → least' < get_or values (target g p) 0 → offer values u (weight g p) ≤ MAX_SUM →
-      word_of new (target g p) ≤ offer values u (weight g p)
-  word_reached u p at member more within =
+  -- an offer that is less than the target had was made
+  word_offered : (u p : ℕ) → IsPlaceOf g u p → Contains members u → least' < get_or values (target g p) 0 → offer values u (weight g p) ≤ MAX_SUM →
+      offer values u (weight g p) < get_or values (target g p) 0 → word_of new (target g p) ≤ offer values u (weight g p)
+  word_offered u p at member more within less =
       let v : ℕ = target g p in
       let c : ℕ = offer values u (weight g p) in
       let a : Application = application by u p v (weight g p) in
-      let w : IsWanted by g members (may_fall skips least' values) a =
-      record { by_is = refl; member = member; place = at; target_is = refl; weight_is = refl; target_wanted = wanted_more skips least' values v more } in
-      let found : OneOf mapped.done (λ d. d.to ≡ a) = applied_to by g members (may_fall skips least' values) mapped.done lawful mapped.once a w in
+      let w : IsWanted by g members (may_fall least' values) a =
+      record { by_is = refl; member = member; place = at; target_is = refl; weight_is = refl; target_wanted = wanted_more least' values v more } in
+      let found : OneOf mapped.done (λ d. d.to ≡ a) = applied_to by g members (may_fall least' values) mapped.done lawful mapped.once a w in
       let r : Relaxes values a found.one.answer found.one.added = subst (λ b. Relaxes values b found.one.answer found.one.added) found.holds (gave found.one found.there) in
-      let some : 0 < weigh (is_at v c) (first_part found.one.added) = made_entry values a found.one.answer found.one.added r within in
+      let some : 0 < weigh (is_at v c) (first_part found.one.added) = made_entry values a found.one.answer found.one.added r within less in
       omega (arith, word_is v, least_offered v (start_of old.home v) c old.log entries (omega (arith, some, entries_have (is_at v c) mapped.done found.one found.there)))
+
+  pub word_reached : (u p : ℕ) → IsPlaceOf g u p → Contains members u → least' < get_or values (target g p) 0 → offer values u (weight g p) ≤ MAX_SUM →
+      word_of new (target g p) ≤ offer values u (weight g p)
+  word_reached u p at member more within = elim (cases_lt (offer values u (weight g p)) (get_or values (target g p) 0)) [
+    | inl less ↦ word_offered u p at member more within less
+    | inr same ↦ omega (arith, same, word_falls (target g p), exact (target g p) (target_in_range g lawful p (place_in_range g lawful u p at)))
+  ]
 
   -- a word that fell is what a member offered
   pub fell_offered : (v : ℕ) → word_of new v < word_of old v → IsOffered g members values v (word_of new v)
@@ -148,7 +169,7 @@ module _ (skips : Bool) (by : Direction) (g : RawGraph) (lawful : IsLawful g) (m
       let seen : (offer_of values d.to ≤ MAX_SUM) × (0 < is_at v n (entry LOWER d.to.target (offer_of values d.to) (counted d.answer))) =
       shown values (is_at v n) d.to d.answer d.added (gave d by_one.there) by_one.holds in
       let parts : (d.to.target ≡ v) × (offer_of values d.to ≡ n) = at_parts v n (entry LOWER d.to.target (offer_of values d.to) (counted d.answer)) seen.1 in
-      let w : IsWanted by g members (may_fall skips least' values) d.to = made_wanted by g members (may_fall skips least' values) mapped.done mapped.once d by_one.there in
+      let w : IsWanted by g members (may_fall least' values) d.to = made_wanted by g members (may_fall least' values) mapped.done mapped.once d by_one.there in
       record {
         source = d.to.source;
         place = d.to.place;
@@ -174,7 +195,7 @@ module _ (skips : Bool) (by : Direction) (g : RawGraph) (lawful : IsLawful g) (m
   lowered_in v there =
       answered_true-below (vertices g) v mapped.done
       (All-from_map (λ (a : Application). a.target < vertices g) (λ (d : EdgeDone). d.to) mapped.done
-      (All-weaker (IsWanted by g members (may_fall skips least' values)) (λ (a : Application). a.target < vertices g) (λ a w. wanted_target by g members (may_fall skips least' values) a lawful w) (map (λ (d : EdgeDone). d.to) mapped.done) mapped.once.no_other))
+      (All-weaker (IsWanted by g members (may_fall least' values)) (λ (a : Application). a.target < vertices g) (λ a w. wanted_target by g members (may_fall least' values) a lawful w) (map (λ (d : EdgeDone). d.to) mapped.done) mapped.once.no_other))
       ((mapped.members_are v).0 there)
 
   pub has_relaxed : IsAlone new → IsSettled new.home new.log → length old.home.starts ≡ vertices g → All (λ u. least' ≤ get_or values u 0) members →
@@ -197,13 +218,13 @@ module _ (skips : Bool) (by : Direction) (g : RawGraph) (lawful : IsLawful g) (m
   }
 
 -- the same after a step that left the root as it was, which told that it is settled
-pub round_relaxed : (skips : Bool) (by : Direction) (g : RawGraph) (members values : List ℕ) (least' : ℕ) (old mid new : Seat) (lowered : List ℕ) → IsLawful g →
-    IsRelaxed skips by g members values least' old mid lowered → mid.home ∷ [] ≡ old.home ∷ [] → mid.root ≡ true → mid.out ≡ 0 →
-    new ≡ mid → (IsAlone new → IsSettled new.home new.log) → length old.home.starts ≡ vertices g → All (λ u. least' ≤ get_or values u 0) members →
+pub round_relaxed : (by : Direction) (g : RawGraph) (members values : List ℕ) (least' : ℕ) (old mid new : Seat) (lowered : List ℕ) → IsLawful g →
+    IsRelaxed by g members values least' old mid lowered → mid.home ∷ [] ≡ old.home ∷ [] → mid.root ≡ true → mid.out ≡ 0 →
+    new ≡ mid → (IsAlone new → IsSettled new.home new.log) → ((v : ℕ) → v < vertices g → word_of old v ≡ get_or values v 0) → length old.home.starts ≡ vertices g → All (λ u. least' ≤ get_or values u 0) members →
     HasRelaxed g members values least' old new lowered
-round_relaxed skips by g members values least' old mid new lowered lawful mapped homes root out same settles words ahead =
+round_relaxed by g members values least' old mid new lowered lawful mapped homes root out same settles exact words ahead =
     let home : mid.home ≡ old.home = cc in
     let alone : IsAlone mid = (root, out) in
     let settles' : IsAlone mid → IsSettled mid.home mid.log = subst (λ (s : Seat). IsAlone s → IsSettled s.home s.log) same settles in
     subst (λ s. HasRelaxed g members values least' old s lowered) (sym same)
-    (has_relaxed skips by g lawful members values least' old mid lowered home mapped alone (settles' alone) words ahead)
+    (has_relaxed by g lawful members values least' old mid lowered home mapped exact alone (settles' alone) words ahead)

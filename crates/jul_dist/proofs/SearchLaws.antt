@@ -1,5 +1,5 @@
 -- One round of a search, from the draw to the moves.
-use Rattle.std.proofs.Common.{◌≡◌, ◌≢◌, ℕ, ◌*◌, ◌/◌, ◌<◌, ◌≤◌, List, [], ◌∷◌, ◌++◌, length, get_or, ap, sym, ◌∙◌, subst, arith, inl, inr}
+use Rattle.std.proofs.Common.{◌≡◌, ◌≢◌, ℕ, ◌*◌, ◌/◌, ◌<◌, ◌≤◌, List, [], ◌∷◌, ◌++◌, length, get_or, refl, ap, sym, ◌∙◌, subst, arith, inl, inr}
 use Rattle.std.specs.Prelude.{Contains, Option, Some, None, Vec, MatchOption}
 use Rattle.std.specs.Global.{Global}
 use Rattle.std.specs.List.{All}
@@ -23,15 +23,15 @@ use Rattle.jul_bucket.specs.declared.draws.Draw.{Draw}
 use Rattle.jul_bucket.specs.Orders.{IsNotBehind}
 use Rattle.jul_bucket.specs.Places.{ids_at, emptied, set_places, AllNone}
 use Rattle.jul_bucket.specs.States.{State, IsState, IsDrawn}
-use Rattle.jul_bucket.proofs.IdLaws.{Contains-ids_at, ids_at-Contains, IsStrictlyIncreasing-ids_at, length-emptied, emptied-here, emptied-other, length-set_places}
+use Rattle.jul_bucket.proofs.IdLaws.{Contains-ids_at, ids_at-Contains, IsStrictlyIncreasing-ids_at, length-emptied, emptied-here, emptied-other}
 use Rattle.jul_words.specs.Least.{word_of}
 use Rattle.jul_base.proofs.SetLaws.{member_cases}
 use Rattle.jul_dist.specs.Relaxing.{HasRelaxed, AreAboveFloors}
 use Rattle.jul_dist.specs.Draws.{NeverFall}
-use Rattle.jul_dist.specs.Moving.{placed, remaining, bucket_of, moves_of, CanGo, HasTaken}
+use Rattle.jul_dist.specs.Moving.{placed, remaining, bucket_of, moves_of, CanGo, HasTaken, HasMoved}
 use Rattle.jul_dist.specs.Advancing.{IsAdvancing, IsSearching}
-use Rattle.jul_dist.proofs.PlacedLaws.{placed_emptied, placed_moved}
-use Rattle.jul_dist.proofs.MovingLaws.{moves_few, placed_there, placed_still, moves_all}
+use Rattle.jul_dist.proofs.PlacedLaws.{placed_emptied}
+use Rattle.jul_dist.proofs.GroupLaws.{moved_once}
 use Rattle.jul_subset.proofs.IncreasingLaws.{length_below}
 use Rattle.jul_dist.proofs.AdvanceLaws.{div-le, AreIn, ArePlaced, all_ahead, bucket_small, above_floors, advances, not_behind, ended}
 
@@ -135,9 +135,6 @@ module _ (g : RawGraph) (lawful : IsLawful g) (sources : List ℕ) (sources_in :
           | inr other ↦ taken.kept v other
         ]
 
-      abbrev moves : List (ℕ × ℕ)
-      moves = moves_of mid delta values' fell
-
       mid_size : length mid.places ≡ length values
       mid_size = ap (λ (l : List ℕ). length l) mid_places ∙ length-emptied s.places b ∙ a.places_size ∙ sym a.size
 
@@ -160,77 +157,76 @@ module _ (g : RawGraph) (lawful : IsLawful g) (sources : List ℕ) (sources_in :
       in_mid : (v : ℕ) → v < length values → v < length mid.places
       in_mid v lt = omega (arith, lt, mid_size)
 
-      still_at : (v : ℕ) → v < length values → get_or values' v 0 ≡ get_or values v 0 → get_or (set_places mid.places moves) v 0 ≡ get_or (emptied s.places b) v 0
-      still_at v lt same =
-          placed_still mid delta values' fell v (in_mid v lt) (λ there. absurd (omega (arith, same, ((taken.fell_are v).0 there).1))) ∙ ap (λ l. get_or l v 0) mid_places
-
       in_places : (v : ℕ) → v < length values → v < length s.places
       in_places v lt = omega (arith, lt, a.size, a.places_size)
-
-      -- each vertex whose number fell has a new place, the others that of the emptied bucket
-      are_placed : ArePlaced delta ids values values' s.places (set_places mid.places moves)
-      are_placed = record {
-        fell = λ v lt less.
-            let there : Contains fell v = (taken.fell_are v).1 (lt, less) in
-            placed_there mid delta values' fell v (in_mid v lt) there (some_bucket v there);
-        taken = λ v lt same there. still_at v lt same ∙ emptied-here s.places b v (in_places v lt) ((are_in v).0 there).1;
-        same = λ v lt same other. still_at v lt same ∙ emptied-other s.places b v (in_places v lt) (λ is. other ((are_in v).1 (in_places v lt) is));
-      }
 
       size' : length values' ≡ vertices g
       size' = taken.size ∙ a.size
 
-      places_size' : length (set_places mid.places moves) ≡ vertices g
-      places_size' = length-set_places mid.places moves ∙ mid_size ∙ a.size
-
-      next_advancing : IsAdvancing g sources delta values' (set_places mid.places moves) (s.draws ++ (record { bucket = b; ids = ids }) ∷ [])
-      next_advancing =
-          advances g lawful sources sources_in delta some_delta values s.places s.draws a b ids in_bucket are_in seat seat' lowered values' (set_places mid.places moves) seat_floors
-          h.exact exact' relaxed size' places_size' are_placed
-
       draws_are : s.draws ++ (record { bucket = b; ids = ids }) ∷ [] ≡ mid.draws
       draws_are = ap (λ (l : List ℕ). let d : Draw = record { bucket = b; ids = l } in s.draws ++ d ∷ []) drawn.ids_are ∙ sym mid_draws
 
-      -- none of them goes behind the front
-      goes_on : (v : ℕ) → Contains fell v → IsNotBehind mid.order (bucket_of delta values' v) mid.front
-      goes_on v there =
-          let (v_in, less) = (taken.fell_are v).0 there in
-          let ahead' : b ≤ get_or values' v 0 / delta =
-          not_behind g lawful sources sources_in delta some_delta values s.places s.draws a b ids in_bucket are_in seat seat' lowered values' (set_places mid.places moves) seat_floors
-          h.exact exact' relaxed size' places_size' are_placed v (omega (arith, v_in, a.size)) less in
-          subst (λ (o : Order). IsNotBehind o (bucket_of delta values' v) mid.front) (sym mid_order) (omega (arith, ahead', mid_front))
+      -- the vertices whose numbers fell were moved
+      module _ (t : State) (moved : HasMoved delta values' fell mid t) where
+        still_at : (v : ℕ) → v < length values → get_or values' v 0 ≡ get_or values v 0 → get_or t.places v 0 ≡ get_or (emptied s.places b) v 0
+        still_at v lt same =
+            moved.still v (in_mid v lt) (λ there. absurd (omega (arith, same, ((taken.fell_are v).0 there).1))) ∙ ap (λ l. get_or l v 0) mid_places
 
+        -- each vertex whose number fell has a new place, the others that of the emptied bucket
+        are_placed : ArePlaced delta ids values values' s.places t.places
+        are_placed = record {
+          fell = λ v lt less.
+              let there : Contains fell v = (taken.fell_are v).1 (lt, less) in
+              moved.there v (in_mid v lt) there (some_bucket v there);
+          taken = λ v lt same there. still_at v lt same ∙ emptied-here s.places b v (in_places v lt) ((are_in v).0 there).1;
+          same = λ v lt same other. still_at v lt same ∙ emptied-other s.places b v (in_places v lt) (λ is. other ((are_in v).1 (in_places v lt) is));
+        }
+
+        places_size' : length t.places ≡ vertices g
+        places_size' = moved.size ∙ mid_size ∙ a.size
+
+        next_advancing : IsAdvancing g sources delta values' t.places (s.draws ++ (record { bucket = b; ids = ids }) ∷ [])
+        next_advancing =
+            advances g lawful sources sources_in delta some_delta values s.places s.draws a b ids in_bucket are_in seat seat' lowered values' t.places seat_floors
+            h.exact exact' relaxed size' places_size' are_placed
+
+        -- none of them goes behind the front
+        goes_on : (v : ℕ) → Contains fell v → IsNotBehind mid.order (bucket_of delta values' v) mid.front
+        goes_on v there =
+            let (v_in, less) = (taken.fell_are v).0 there in
+            let ahead' : b ≤ get_or values' v 0 / delta =
+            not_behind g lawful sources sources_in delta some_delta values s.places s.draws a b ids in_bucket are_in seat seat' lowered values' t.places seat_floors
+            h.exact exact' relaxed size' places_size' are_placed v (omega (arith, v_in, a.size)) less in
+            subst (λ (o : Order). IsNotBehind o (bucket_of delta values' v) mid.front) (sym mid_order) (omega (arith, ahead', mid_front))
+
+        pub fewer : remaining values' t.places < remaining values s.places
+        fewer =
+            let less : placed (emptied s.places b) < placed s.places = placed_emptied s.places b in_bucket drawn.first.held in
+            omega (arith, moved.few, taken.less, less, ap placed mid_places)
+
+        pub next : IsSearching g sources delta table home values' seat' t
+        next = record {
+          advancing = subst (λ (l : List Draw). IsAdvancing g sources delta values' t.places l) (draws_are ∙ sym (ap (λ (x : State). x.draws) moved.state_is)) next_advancing;
+          order = ap (λ (x : State). x.order) moved.state_is ∙ mid_order;
+          exact = exact';
+          home_is = relaxed.home ∙ h.home_is;
+          floors = h.floors;
+          of_table = table';
+          words = h.words;
+          alone = relaxed.alone;
+          offers = relaxed.offers h.offers;
+        }
+
+      -- where they are to go is known before they are moved
       pub can_go : All (CanGo mid delta values') fell
       can_go =
+          let t : State = record mid { places = set_places mid.places (moves_of mid delta values' fell) } in
+          let moved : HasMoved delta values' fell mid t = moved_once delta values' mid t fell (λ v there. in_mid v (fell_in v there)) refl in
           All-from_get_or (CanGo mid delta values') fell 0
           (λ k lt.
           let there : Contains fell (get_or fell k 0) = Contains-get_or fell k 0 lt in
           let v_in : get_or fell k 0 < length values = fell_in (get_or fell k 0) there in
-          record { in_places = in_mid (get_or fell k 0) v_in; in_values = omega (arith, v_in, taken.size); not_behind = goes_on (get_or fell k 0) there })
-
-      pub moves_in : All (λ (m : ℕ × ℕ). m.0 < length mid.places) moves
-      moves_in = moves_all mid delta values' fell (λ (m : ℕ × ℕ). m.0 < length mid.places) (λ v there. in_mid v (fell_in v there))
-
-      pub moves_ahead : All (λ (m : ℕ × ℕ). m.1 ≢ NONE → IsNotBehind mid.order m.1 mid.front) moves
-      moves_ahead = moves_all mid delta values' fell (λ (m : ℕ × ℕ). m.1 ≢ NONE → IsNotBehind mid.order m.1 mid.front) (λ v there some. goes_on v there)
-
-      pub fewer : remaining values' (set_places mid.places moves) < remaining values s.places
-      fewer =
-          let less : placed (emptied s.places b) < placed s.places = placed_emptied s.places b in_bucket drawn.first.held in
-          omega (arith, placed_moved mid.places moves moves_in, moves_few mid delta values' fell, taken.less, less, ap placed mid_places)
-
-      pub next : IsSearching g sources delta table home values' seat' (record mid { places = set_places mid.places moves })
-      next = record {
-        advancing = subst (λ (l : List Draw). IsAdvancing g sources delta values' (set_places mid.places moves) l) draws_are next_advancing;
-        order = mid_order;
-        exact = exact';
-        home_is = relaxed.home ∙ h.home_is;
-        floors = h.floors;
-        of_table = table';
-        words = h.words;
-        alone = relaxed.alone;
-        offers = relaxed.offers h.offers;
-      }
+          record { in_places = in_mid (get_or fell k 0) v_in; in_values = omega (arith, v_in, taken.size); not_behind = goes_on t moved (get_or fell k 0) there })
 
 -- where no vertex has a place, the numbers are the distances
 pub none_left : (g : RawGraph) → IsLawful g → (sources : List ℕ) → All (λ s. s < vertices g) sources → (delta : ℕ) (table : List ℕ) (home : Home)
@@ -280,28 +276,14 @@ module _ (g : RawGraph) (lawful : IsLawful g) (sources : List ℕ) (sources_in :
       pub can_go_at : All (CanGo mid delta values') sent
       can_go_at = can_go g lawful sources sources_in delta some_delta table home values seat s h b ids mid drawn seat' lowered relaxed' values' sent taken'
 
-      module _ (moves moved : List (ℕ × ℕ)) (moves_are : moves ≡ moves_of mid delta values' sent) (moved_is : moved ≡ moves) where
-        pub moves_in_at : All (λ (m : ℕ × ℕ). m.0 < length mid.places) moved
-        moves_in_at = subst (All (λ (m : ℕ × ℕ). m.0 < length mid.places)) (sym (moved_is ∙ moves_are))
-            (moves_in g lawful sources sources_in delta some_delta table home values seat s h b ids mid drawn seat' lowered relaxed' values' sent taken')
+      module _ (after : State) (moved : HasMoved delta values' sent mid after) where
+        pub fewer_at : remaining values' after.places < remaining values s.places
+        fewer_at = fewer g lawful sources sources_in delta some_delta table home values seat s h b ids mid drawn seat' lowered relaxed' values' sent taken' after moved
 
-        pub moves_ahead_at : All (λ (m : ℕ × ℕ). m.1 ≢ NONE → IsNotBehind mid.order m.1 mid.front) moved
-        moves_ahead_at = subst (All (λ (m : ℕ × ℕ). m.1 ≢ NONE → IsNotBehind mid.order m.1 mid.front)) (sym (moved_is ∙ moves_are))
-            (moves_ahead g lawful sources sources_in delta some_delta table home values seat s h b ids mid drawn seat' lowered relaxed' values' sent taken')
-
-        module _ (after : State) (after_is : after ≡ record mid { places = set_places mid.places moved }) where
-          settled_is : after ≡ record mid { places = set_places mid.places (moves_of mid delta values' sent) }
-          settled_is = after_is ∙ ap (λ l. record mid { places = set_places mid.places l }) (moved_is ∙ moves_are)
-
-          pub fewer_at : remaining values' after.places < remaining values s.places
-          fewer_at = subst (λ (t : State). remaining values' t.places < remaining values s.places) (sym settled_is)
-              (fewer g lawful sources sources_in delta some_delta table home values seat s h b ids mid drawn seat' lowered relaxed' values' sent taken')
-
-          pub next_at : IsSearching g sources delta table home values' seat'' after
-          next_at =
-              subst (λ x. IsSearching g sources delta table home values' x after) (sym same)
-              (subst (λ (t : State). IsSearching g sources delta table home values' seat' t) (sym settled_is)
-              (next g lawful sources sources_in delta some_delta table home values seat s h b ids mid drawn seat' lowered relaxed' values' sent taken'))
+        pub next_at : IsSearching g sources delta table home values' seat'' after
+        next_at =
+            subst (λ x. IsSearching g sources delta table home values' x after) (sym same)
+            (next g lawful sources sources_in delta some_delta table home values seat s h b ids mid drawn seat' lowered relaxed' values' sent taken' after moved)
 
 -- ---- the draws
 

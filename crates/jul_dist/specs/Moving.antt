@@ -1,5 +1,5 @@
 -- What the root finds in the words after a round, and where the vertices go whose numbers fell.
-use Rattle.std.specs.Prelude.{◌≡◌, ℕ, ◌+◌, ◌*◌, ◌/◌, ◌<◌, ◌≤◌, ◌==◌, ◌↔◌, not, min, List, [], ◌∷◌, length, sum, count_by, Contains, slice_index}
+use Rattle.std.specs.Prelude.{◌≡◌, ◌≢◌, ℕ, ◌+◌, ◌*◌, ◌/◌, ◌<◌, ◌≤◌, ◌==◌, ◌↔◌, not, min, List, [], ◌∷◌, length, sum, count_by, Contains, slice_index}
 use Rattle.std.specs.List.{flat_map}
 use Rattle.jul_base.specs.declared.limits.TheConstants.{NONE}
 use Rattle.jul_bucket.specs.declared.draws.Dest.{Dest}
@@ -47,3 +47,12 @@ pub record CanGo (s : State) (delta : ℕ) (values : List ℕ) (v : ℕ) : Type 
   pub in_places : v < length s.places
   pub in_values : v < length values
   pub not_behind : IsNotBehind s.order (bucket_of delta values v) s.front
+
+-- These vertices have the buckets of their numbers as their places, and nothing else has changed. No more vertices than
+-- these have a place that had none
+pub record HasMoved (delta : ℕ) (values ids : List ℕ) (old new : State) : Type 0 where
+  pub state_is : new ≡ record old { places = new.places }
+  pub size : length new.places ≡ length old.places
+  pub there : (v : ℕ) → v < length old.places → Contains ids v → bucket_of delta values v ≢ NONE → slice_index new.places v ≡ bucket_of delta values v
+  pub still : (v : ℕ) → v < length old.places → (Contains ids v → ⊥) → slice_index new.places v ≡ slice_index old.places v
+  pub few : placed new.places ≤ placed old.places + length ids

@@ -72,6 +72,7 @@ pub fn distances<R: Threads + Sync, G: Gate>(
     ensures words { IfOk result (λ r. (v : ℕ) → v < vertices rows.now → word_of r.seat v ≡ slice_index r.dist v) }
     ensures offers { IfOk result (λ r. AreSums r.seat.log) }
     ensures seat { IfOk result (λ r. IsAlone r.seat × (r.seat.home ≡ seat.home)) }
+    ensures unstamped { IfOk result (λ r. r.stamp_seat ≡ stamp_seat) }
     ensures stamp_seat { IfOk result (λ r. IsAlone r.stamp_seat × (r.stamp_seat.home ≡ stamp_seat.home)) }
     ensures stamps { IfOk result (λ r. (round : ℕ) → length buckets.new.draws < round →
         CanStamp (vertices rows.now) stamps.now round r.stamp_seat) }

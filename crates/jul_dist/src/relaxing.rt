@@ -13,8 +13,6 @@ pub(crate) struct Relax<'a> {
     pub(crate) values: &'a [u64],
     /// No member has less. Vertices with no more than this can't be lowered.
     pub(crate) least: u64,
-    /// Whether places that lead to those are left out. A look at the number of each target pays in a pull alone.
-    pub(crate) skips: bool,
     /// The words that are lowered.
     pub(crate) words: &'a MinWords,
 }
@@ -24,7 +22,7 @@ impl<'a> EdgeFn for Relax<'a> {
 
     ghost can_want = { λ f v. v < length f.values.now };
 
-    ghost wanted = { λ f. may_fall f.skips f.least f.values.now };
+    ghost wanted = { λ f. may_fall f.least f.values.now };
 
     ghost can_apply = { λ f a home. CanRelax f.values.now a home };
 
@@ -32,7 +30,7 @@ impl<'a> EdgeFn for Relax<'a> {
 
     #[inline]
     fn wants(&self, v: u32) -> bool {
-        !self.skips || self.least < self.values[v as usize]
+        self.least < self.values[v as usize]
     }
 
     #[inline]
@@ -51,6 +49,11 @@ impl<'a> EdgeFn for Relax<'a> {
         }
         let c = from + u64::from(w);
         if c > MAX_SUM {
+            return false;
+        }
+        // The word is no greater than this, so an offer that isn't less can be left out.
+        let before = self.values[v as usize];
+        if before <= c {
             return false;
         }
         c < hand.words.lower(&mut hand.seat, v, c)

@@ -1,8 +1,9 @@
 //! One round of relaxations.
-ghost use Rattle.std.specs.Prelude.{◌≡◌, ◌<◌, ◌≤◌, length, All, IfOk, IfSome, slice_index};
+ghost use Rattle.std.specs.Prelude.{◌≡◌, ℕ, ◌<◌, ◌≤◌, length, All, IfOk, IfSome, slice_index};
 ghost use Rattle.jul_base.specs.Graph.{vertices};
 ghost use Rattle.jul_base.specs.InRows.{IsFlip};
 ghost use Rattle.jul_words.specs.Seats.{IsSeatOf, IsAlone};
+ghost use Rattle.jul_words.specs.Least.{word_of};
 ghost use Rattle.jul_subset.specs.Subsets.{IsSubset};
 ghost use Rattle.jul_edge.specs.declared.functions.Direction.TheVariants.{Push};
 ghost use Rattle.jul_edge.specs.EdgeMaps.{listed};
@@ -44,6 +45,7 @@ pub(crate) fn relax_round<R: Threads + Sync, G: Gate>(
     requires table { IsSeatOf words.now seat }
     requires words { length seat.home.starts ≡ vertices rows.now }
     requires alone { IsAlone seat }
+    requires exact { (v : ℕ) → v < vertices rows.now → word_of seat v ≡ slice_index values.now v }
     requires floors { AreAboveFloors rows.now from.now values.now seat.home }
 
     ensures relaxed { IfOk result (λ new.
@@ -53,7 +55,6 @@ pub(crate) fn relax_round<R: Threads + Sync, G: Gate>(
     let f = Relax {
         values,
         least,
-        skips: in_rows.is_some(),
         words,
     };
     let hand = MinHand { words, seat };

@@ -5,7 +5,7 @@ ghost use Rattle.jul_base.specs.InRows.{IsFlip};
 ghost use Rattle.jul_bucket.specs.Places.{AllNone};
 ghost use Rattle.jul_dist.specs.Advancing.{IsSearching};
 
-use crate::moving::moves_to;
+use crate::moving::move_all;
 use crate::rounds::relax_round;
 use crate::settling::take_words;
 use jul_base::Gate;
@@ -66,7 +66,6 @@ pub(crate) fn search<R: Threads + Sync, G: Gate>(
             &mut lowered,
         )?;
         take_words(words, &mut seat, lowered.as_slice(), values, &mut fell)?;
-        moves_to(fell.as_slice(), values, delta, buckets, &mut moves)?;
-        buckets.update_buckets(moves.as_slice())?;
+        move_all(fell.as_slice(), values, delta, buckets, &mut moves)?;
     }
 }

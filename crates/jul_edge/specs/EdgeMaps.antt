@@ -1,5 +1,5 @@
 -- What an edge map does, and which direction is chosen.
-use Rattle.std.specs.Prelude.{ℕ, ◌/◌, ◌≤◌, ◌<◌, List, [], ◌++◌, ◌≡◌, ◌↔◌, Bool, true, false, length, map, All, Contains, nat_lt, if◌then◌else◌}
+use Rattle.std.specs.Prelude.{ℕ, ◌/◌, ◌≤◌, ◌<◌, List, [], ◌++◌, ◌≡◌, ◌↔◌, Bool, true, false, length, map, All, Contains, Option, Some, None, nat_lt, if◌then◌else◌}
 use Rattle.jul_base.specs.declared.graphs.RawGraph.{RawGraph}
 use Rattle.jul_base.specs.Graph.{vertices, places}
 use Rattle.jul_base.specs.Logs.{Log, Entry, Home, STAMP}
@@ -57,3 +57,8 @@ pub record HasStamped (by : Direction) (round : ℕ) (old new : Seat) : Type 0 w
 -- by pull where members and places are more than a twentieth of all places
 abbrev pub direction_for : RawGraph → List ℕ → Direction
 direction_for g members = if nat_lt (places g / 20) (reach g members) then Pull else Push
+
+-- by pull where there are in-rows and the work is more than half of all places
+abbrev pub direction_by_reach : {A : Type 0} → Option A → RawGraph → ℕ → Direction
+direction_by_reach None g work = Push
+direction_by_reach (Some in_rows) g work = if nat_lt (places g / 2) work then Pull else Push

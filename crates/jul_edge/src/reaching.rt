@@ -6,7 +6,7 @@ ghost use Rattle.jul_subset.specs.Subsets.{IsSubset};
 ghost use Rattle.jul_edge.specs.declared.functions.Direction.{Direction};
 ghost use Rattle.jul_edge.specs.declared.functions.Direction.TheVariants.{Push, Pull};
 ghost use Rattle.jul_edge.specs.Edges.{Application, IsWanted};
-ghost use Rattle.jul_edge.specs.EdgeMaps.{HasMapped, CanStamp, HasStamped, listed};
+ghost use Rattle.jul_edge.specs.EdgeMaps.{HasMapped, CanStamp, HasStamped, listed, direction_by_reach};
 
 use crate::functions::{Direction, EdgeFn};
 use crate::maps::{EdgeOut, NotedOut};
@@ -53,6 +53,7 @@ pub fn edge_map_by_reach<R: Threads + Sync, F: EdgeFn, G: Gate>(
     requires apply { (by : Direction) → (a : Application) →
         IsWanted by rows.now from.now.members (F.wanted f.now) a → F.can_apply f.now a (F.Token.home token) }
 
+    ensures direction { IfOk result (λ r. r.direction ≡ direction_by_reach in_rows.entry rows.now reach) }
     ensures made { IfOk result (λ r. HasMapped F.Token.log F.Token.home F.Token.is_root F.Token.out
         r.direction rows.now from.now.members (F.wanted f.now) (F.gives f.now) token r.token r.subset) }
     ensures stamped { IfOk result (λ r. HasStamped r.direction round stamp_seat r.stamp_seat) }
@@ -95,6 +96,7 @@ pub fn edge_notes_by_reach<R: Threads + Sync, F: EdgeFn, G: Gate>(
     requires apply { (by : Direction) → (a : Application) →
         IsWanted by rows.now members.now (F.wanted f.now) a → F.can_apply f.now a (F.Token.home token) }
 
+    ensures direction { IfOk result (λ r. r.direction ≡ direction_by_reach in_rows.entry rows.now reach) }
     ensures made { IfOk result (λ r. HasMapped F.Token.log F.Token.home F.Token.is_root F.Token.out
         r.direction rows.now members.now (F.wanted f.now) (F.gives f.now) token r.token
         (listed r.direction (vertices rows.now) noted.new.items)) }

@@ -6,6 +6,8 @@ ghost use Rattle.jul_words.specs.Weights.{counted};
 ghost use Rattle.jul_words.specs.Seats.{entry, IsAlone};
 ghost use Rattle.jul_edge.specs.EdgeMaps.{CanStamp};
 
+mod reaching;
+
 use super::*;
 use jul_base::{Free, Gate, Ids, OpenGate, RawGraph};
 use jul_pool::Team;

@@ -1,6 +1,6 @@
 use Rattle.std.proofs.Common.{◌*◌, ◌≤◌, arith}
 use Rattle.jul_dist.specs.declared.limits.TheConstants.{MAX_SUM}
-use Rattle.jul_dist.proofs.SearchLaws.{small, drawn_at, from_in, from_few, ahead_at, floors_at, can_go_at, moves_in_at, moves_ahead_at, fewer_at, next_at}
+use Rattle.jul_dist.proofs.SearchLaws.{small, drawn_at, from_in, from_few, ahead_at, floors_at, can_go_at, fewer_at, next_at}
 use Rattle.jul_dist.proofs.searching.search.Goals as goal
 
 pub reach_of-reach-requires-clause-few : goal.reach_of-reach-requires-clause-few
@@ -46,34 +46,14 @@ relax_round-requires-clause-floors g c κs within =
     (drawn_at c.rounds.buckets c.next_bucket.new.self c.in_ok-bucket.field-0 c.in-Some.bucket c.in-Some.ids c.in-Some.is c.in_ok-bucket.ensures.drawn)
     c.as_slice-from.result.now c.as_slice-from.ensures.value
 
-pub moves_to-requires-clause-can_go : goal.moves_to-requires-clause-can_go
-moves_to-requires-clause-can_go g c =
+pub move_all-requires-clause-can_go : goal.move_all-requires-clause-can_go
+move_all-requires-clause-can_go g c =
     can_go_at c.args.rows.now c.n.ensures.lawful c.args.sources.now c.requires.sources c.args.delta c.requires.delta c.args.words.now c.args.seat.home
     c.rounds.values c.rounds.seat c.rounds.buckets c.rounds.invariant c.in-Some.bucket c.in-Some.ids.items c.next_bucket.new.self
     (drawn_at c.rounds.buckets c.next_bucket.new.self c.in_ok-bucket.field-0 c.in-Some.bucket c.in-Some.ids c.in-Some.is c.in_ok-bucket.ensures.drawn)
     c.as_slice-from.result.now c.as_slice-from.ensures.value
     c.in_ok-seat.seat c.take_words.new.seat c.relax_round.new.lowered.items c.in_ok-seat.ensures.relaxed c.in_ok-take_words.ensures.same
     c.as_slice.result.now c.take_words.new.values c.take_words.new.fell.items c.as_slice-in-rounds.result.now c.as_slice.ensures.value c.in_ok-take_words.ensures.taken c.as_slice-in-rounds.ensures.value
-
-pub update_buckets-requires-clause-ids : goal.update_buckets-requires-clause-ids
-update_buckets-requires-clause-ids g c =
-    moves_in_at c.args.rows.now c.n.ensures.lawful c.args.sources.now c.requires.sources c.args.delta c.requires.delta c.args.words.now c.args.seat.home
-    c.rounds.values c.rounds.seat c.rounds.buckets c.rounds.invariant c.in-Some.bucket c.in-Some.ids.items c.next_bucket.new.self
-    (drawn_at c.rounds.buckets c.next_bucket.new.self c.in_ok-bucket.field-0 c.in-Some.bucket c.in-Some.ids c.in-Some.is c.in_ok-bucket.ensures.drawn)
-    c.as_slice-from.result.now c.as_slice-from.ensures.value
-    c.in_ok-seat.seat c.take_words.new.seat c.relax_round.new.lowered.items c.in_ok-seat.ensures.relaxed c.in_ok-take_words.ensures.same
-    c.as_slice.result.now c.take_words.new.values c.take_words.new.fell.items c.as_slice-in-rounds.result.now c.as_slice.ensures.value c.in_ok-take_words.ensures.taken c.as_slice-in-rounds.ensures.value
-    c.moves_to.new.moves.items c.as_slice-in-rounds-2.result.now c.in_ok-moves_to.ensures c.as_slice-in-rounds-2.ensures.value
-
-pub update_buckets-requires-clause-not_behind : goal.update_buckets-requires-clause-not_behind
-update_buckets-requires-clause-not_behind g c =
-    moves_ahead_at c.args.rows.now c.n.ensures.lawful c.args.sources.now c.requires.sources c.args.delta c.requires.delta c.args.words.now c.args.seat.home
-    c.rounds.values c.rounds.seat c.rounds.buckets c.rounds.invariant c.in-Some.bucket c.in-Some.ids.items c.next_bucket.new.self
-    (drawn_at c.rounds.buckets c.next_bucket.new.self c.in_ok-bucket.field-0 c.in-Some.bucket c.in-Some.ids c.in-Some.is c.in_ok-bucket.ensures.drawn)
-    c.as_slice-from.result.now c.as_slice-from.ensures.value
-    c.in_ok-seat.seat c.take_words.new.seat c.relax_round.new.lowered.items c.in_ok-seat.ensures.relaxed c.in_ok-take_words.ensures.same
-    c.as_slice.result.now c.take_words.new.values c.take_words.new.fell.items c.as_slice-in-rounds.result.now c.as_slice.ensures.value c.in_ok-take_words.ensures.taken c.as_slice-in-rounds.ensures.value
-    c.moves_to.new.moves.items c.as_slice-in-rounds-2.result.now c.in_ok-moves_to.ensures c.as_slice-in-rounds-2.ensures.value
 
 pub rounds-smaller : goal.rounds-smaller
 rounds-smaller g c =
@@ -83,8 +63,7 @@ rounds-smaller g c =
     c.as_slice-from.result.now c.as_slice-from.ensures.value
     c.in_ok-seat.seat c.take_words.new.seat c.relax_round.new.lowered.items c.in_ok-seat.ensures.relaxed c.in_ok-take_words.ensures.same
     c.as_slice.result.now c.take_words.new.values c.take_words.new.fell.items c.as_slice-in-rounds.result.now c.as_slice.ensures.value c.in_ok-take_words.ensures.taken c.as_slice-in-rounds.ensures.value
-    c.moves_to.new.moves.items c.as_slice-in-rounds-2.result.now c.in_ok-moves_to.ensures c.as_slice-in-rounds-2.ensures.value
-    c.update_buckets.new.self c.in_ok-update_buckets.ensures.ok
+    c.move_all.new.buckets c.in_ok-move_all.ensures
 
 pub rounds-preserved : goal.rounds-preserved
 rounds-preserved g c =
@@ -94,5 +73,4 @@ rounds-preserved g c =
     c.as_slice-from.result.now c.as_slice-from.ensures.value
     c.in_ok-seat.seat c.take_words.new.seat c.relax_round.new.lowered.items c.in_ok-seat.ensures.relaxed c.in_ok-take_words.ensures.same
     c.as_slice.result.now c.take_words.new.values c.take_words.new.fell.items c.as_slice-in-rounds.result.now c.as_slice.ensures.value c.in_ok-take_words.ensures.taken c.as_slice-in-rounds.ensures.value
-    c.moves_to.new.moves.items c.as_slice-in-rounds-2.result.now c.in_ok-moves_to.ensures c.as_slice-in-rounds-2.ensures.value
-    c.update_buckets.new.self c.in_ok-update_buckets.ensures.ok
+    c.move_all.new.buckets c.in_ok-move_all.ensures
