@@ -93,7 +93,7 @@ input_refused (generated n pairs seed) work a b status memory = inr (inr memory)
 -- ---- a problem that is solved
 
 -- the graph is refused at its stage
-unsuited_stage : (g : RawGraph) (problem : Problem) (status : Status) → IsUnsuited g problem status → stage_of status ≡ 4
+unsuited_stage : (g : RawGraph) (problem : Problem) (status : Status) → IsUnsuited g problem status → stage_of status ≡ 6
 unsuited_stage g (distances sources) status unsuited = refusal_stage (vertices g) sources status unsuited
 unsuited_stage g cores status (p, first, is) = ap stage_of is
 unsuited_stage g cover status none = absurd none
@@ -129,7 +129,7 @@ pub solve_refused : (input : Input) (work : Work) (problem : Problem) (form : Fo
     IsInputRead input a b g → IsUnsolved g problem status → IsRefused (query_of input work) a b status
 solve_refused input work problem form a b g status e read (inr memory) = inr (inr memory)
 solve_refused input work problem form a b g status e read (inl unsuited) =
-    let at : stage_of status ≡ 4 = unsuited_stage g problem status unsuited in
+    let at : stage_of status ≡ 6 = unsuited_stage g problem status unsuited in
     inl ((omega (arith, at), omega (arith, at)), solve_answer input work problem form a b g status [] e read (omega (arith, at)) (inl (unsuited, refl)))
 
 -- ---- the check

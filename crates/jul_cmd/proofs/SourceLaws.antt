@@ -16,7 +16,7 @@ pub source_outside : (n : ℕ) (xs : List ℕ) (i : ℕ) → i < length xs → n
 source_outside n xs i lt outside = ap (refusal_of_sources n) (drop-cons xs i 0 lt) ∙ cond-false _ _ _ (le-ltb (get_or xs i 0) n outside)
 
 -- the refusal comes at its stage
-pub refusal_stage : (n : ℕ) (xs : List ℕ) (status : Status) → refusal_of_sources n xs ≡ Some status → stage_of status ≡ 4
+pub refusal_stage : (n : ℕ) (xs : List ℕ) (status : Status) → refusal_of_sources n xs ≡ Some status → stage_of status ≡ 6
 refusal_stage n [] status e = absurd (cc)
 refusal_stage n (x ∷ xs) status e = elim (cases_lt x n) [
   | inl lt ↦ refusal_stage n xs status (sym (cond-true _ _ _ (lt-ltb x n lt)) ∙ e)

@@ -71,7 +71,7 @@ judged-outside g sources w d status e outside = ap (judged g sources) e ∙ ap (
 pub judges_outside : (g : RawGraph) (sources : List ℕ) (n : ℕ) (w : Witness) (d : Distances) (status : Status) → w ≡ witnesses.Distances d → n ≡ vertices g → refusal_of_sources n sources ≡ Some status →
     Judges (Err status) (judged g sources w)
 judges_outside g sources n w d status e same outside =
-    let at : stage_of status ≡ 4 = refusal_stage n sources status outside in
+    let at : stage_of status ≡ 6 = refusal_stage n sources status outside in
     inl ((omega (arith, at), omega (arith, at)), judged-outside g sources w d status e (ap (λ k. refusal_of_sources k sources) (sym same) ∙ outside))
 
 -- ---- the size

@@ -31,15 +31,15 @@ use Rattle.jul_cmd.specs.Outcomes.{IsAnswer, FailedReading}
 
 -- a refusal that the files cause
 abbrev pub IsRefusal : Status → Type 0
-IsRefusal status = (1 ≤ stage_of status) × (stage_of status < 5)
+IsRefusal status = (1 ≤ stage_of status) × (stage_of status < 7)
 
 -- a refusal that comes once the witness was read
 abbrev pub IsWitnessRefusal : Status → Type 0
-IsWitnessRefusal status = (2 ≤ stage_of status) × (stage_of status < 5)
+IsWitnessRefusal status = (2 ≤ stage_of status) × (stage_of status < 7)
 
 -- an answer that has a text
 abbrev pub IsGiven : Status → Type 0
-IsGiven status = stage_of status ≡ 5
+IsGiven status = stage_of status ≡ 7
 
 -- ---- files
 
