@@ -7,3 +7,4 @@ pub mod WalkRows
 pub mod WalkTurns
 pub mod WalkEnds
 pub mod ReadingLaws
+pub mod SourceLaws

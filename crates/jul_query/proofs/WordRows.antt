@@ -4,18 +4,18 @@ use Rattle.std.specs.Bool.{⊤}
 use Rattle.std.specs.Str.{chars}
 use Rattle.jul_query.specs.Counting.{times, is_counted_twice}
 use Rattle.jul_query.specs.Splitting.{read, split}
-use Rattle.jul_query.specs.Queries.{graph_file, generated, Problem, distances, cores, cover, Form, whole, bare, summary, solve, check, Asked}
-use Rattle.jul_query.specs.Words.{asked, asked_split}
+use Rattle.jul_query.specs.Queries.{graph_file, generated, Problem, distances, cores, cover, Form, whole, bare, summary, Purpose, check, upgrade, solve, judge, Asked}
+use Rattle.jul_query.specs.Words.{sources_in, asked, asked_split}
 
 unfoldable on_words : ⊤
-unfolding chars split read times is_counted_twice asked asked_split
+unfolding chars split read times is_counted_twice sources_in asked asked_split
 on_words = tt
 
 abbrev run_of : List ℕ → Problem → Form → Option Asked
 run_of graph problem form = Some (record { input = graph_file graph; work = solve problem form })
 
-abbrev check_of : List ℕ → List ℕ → Option (List ℕ) → Option Asked
-check_of graph witness sources = Some (record { input = graph_file graph; work = check witness sources })
+abbrev judge_of : Purpose → List ℕ → List ℕ → Option (List ℕ) → Option Asked
+judge_of purpose graph witness sources = Some (record { input = graph_file graph; work = judge purpose witness sources })
 
 -- options and positionals are mixed, and a value stands behind `=` or is the next word
 mixed : asked (codes "--workers=2" ∷ codes "kcore" ∷ codes "g" ∷ codes "--chunk" ∷ codes "1" ∷ []) ≡ run_of (codes "g") cores whole
@@ -40,12 +40,30 @@ greatest_source : asked (codes "wbfs" ∷ codes "g" ∷ codes "--source" ∷ cod
 unfolding on_words
 greatest_source = refl
 
+-- a list of sources: each number once, in order
+distinct_sources : asked (codes "wbfs" ∷ codes "g" ∷ codes "--source" ∷ codes "2,0,02" ∷ []) ≡ run_of (codes "g") (distances (0 ∷ 2 ∷ [])) whole
+unfolding on_words
+distinct_sources = refl
+
+-- an empty part of a list is no number
+empty_part : asked (codes "wbfs" ∷ codes "g" ∷ codes "--source" ∷ codes "0,,1" ∷ []) ≡ None
+unfolding on_words
+empty_part = refl
+
+empty_list : asked (codes "wbfs" ∷ codes "g" ∷ codes "--source=" ∷ []) ≡ None
+unfolding on_words
+empty_list = refl
+
+last_part_empty : sources_in (codes "1,") ≡ None
+unfolding on_words
+last_part_empty = refl
+
 above_the_greatest : asked (codes "wbfs" ∷ codes "g" ∷ codes "--source" ∷ codes "4294967296" ∷ []) ≡ None
 unfolding on_words
 above_the_greatest = refl
 
 -- behind `--` each word is a positional
-behind_two_dashes : asked (codes "check" ∷ codes "--" ∷ codes "--bare" ∷ codes "-g" ∷ []) ≡ check_of (codes "--bare") (codes "-g") None
+behind_two_dashes : asked (codes "check" ∷ codes "--" ∷ codes "--bare" ∷ codes "-g" ∷ []) ≡ judge_of check (codes "--bare") (codes "-g") None
 unfolding on_words
 behind_two_dashes = refl
 
@@ -96,9 +114,33 @@ two_standard_inputs : asked (codes "check" ∷ codes "-" ∷ codes "-" ∷ []) �
 unfolding on_words
 two_standard_inputs = refl
 
-one_standard_input : asked (codes "check" ∷ codes "-" ∷ codes "w" ∷ codes "--source" ∷ codes "3" ∷ []) ≡ check_of (codes "-") (codes "w") (Some (3 ∷ []))
+one_standard_input : asked (codes "check" ∷ codes "-" ∷ codes "w" ∷ codes "--source" ∷ codes "3" ∷ []) ≡ judge_of check (codes "-") (codes "w") (Some (3 ∷ []))
 unfolding on_words
 one_standard_input = refl
+
+upgraded : asked (codes "upgrade" ∷ codes "g" ∷ codes "-" ∷ []) ≡ judge_of upgrade (codes "g") (codes "-") None
+unfolding on_words
+upgraded = refl
+
+upgraded_by_sources : asked (codes "upgrade" ∷ codes "g" ∷ codes "w" ∷ codes "--source=5,3" ∷ []) ≡ judge_of upgrade (codes "g") (codes "w") (Some (3 ∷ 5 ∷ []))
+unfolding on_words
+upgraded_by_sources = refl
+
+upgrade_of_two_standard_inputs : asked (codes "upgrade" ∷ codes "-" ∷ codes "-" ∷ []) ≡ None
+unfolding on_words
+upgrade_of_two_standard_inputs = refl
+
+upgrade_without_a_witness : asked (codes "upgrade" ∷ codes "g" ∷ []) ≡ None
+unfolding on_words
+upgrade_without_a_witness = refl
+
+bare_upgrade : asked (codes "upgrade" ∷ codes "g" ∷ codes "w" ∷ codes "--bare" ∷ []) ≡ None
+unfolding on_words
+bare_upgrade = refl
+
+no_demo_of_upgrade : asked (codes "demo" ∷ codes "upgrade" ∷ codes "--n" ∷ codes "1" ∷ codes "--pairs" ∷ codes "0" ∷ codes "--seed" ∷ codes "0" ∷ []) ≡ None
+unfolding on_words
+no_demo_of_upgrade = refl
 
 bare_cover : asked (codes "--bare" ∷ codes "cover" ∷ codes "-" ∷ []) ≡ run_of (codes "-") cover bare
 unfolding on_words

@@ -27,8 +27,8 @@ number_or default low high (Some text) = number_in low high text
 
 -- ---- the ranges and the defaults
 
-abbrev pub source_number : Option Text → Option ℕ
-source_number = number_or 0 0 4294967295
+abbrev pub source_number : Text → Option ℕ
+source_number = number_in 0 4294967295
 
 abbrev pub delta_number : Option Text → Option ℕ
 delta_number = number 1 4294967295

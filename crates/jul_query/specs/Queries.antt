@@ -19,11 +19,16 @@ pub data Form : Type 0 where
   bare : Form
   summary : (task : List ℕ) → Form
 
+-- what is written of a witness that is accepted: `yes`, or its text as such texts are written today
+pub data Purpose : Type 0 where
+  check : Purpose
+  upgrade : Purpose
+
 -- what is to be done with a graph: a problem is solved and its result written in a form, or the witness file of a name is
--- checked, where the words may name sources
+-- judged, where the words may name sources
 pub data Work : Type 0 where
   solve : (problem : Problem) → (form : Form) → Work
-  check : (witness : List ℕ) → (sources : Option (List ℕ)) → Work
+  judge : (purpose : Purpose) → (witness : List ℕ) → (sources : Option (List ℕ)) → Work
 
 -- what the words ask for
 pub record Asked : Type 0 where
@@ -43,4 +48,4 @@ graph_name (generated n pairs seed) = None
 
 abbrev pub witness_name : Work → Option (List ℕ)
 witness_name (solve problem form) = None
-witness_name (check witness sources) = Some witness
+witness_name (judge purpose witness sources) = Some witness

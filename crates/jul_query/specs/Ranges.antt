@@ -1,5 +1,6 @@
 -- The ranges that the numbers of a query are in.
-use Rattle.std.specs.Prelude.{ℕ, ◌≤◌}
+use Rattle.std.specs.Prelude.{◌≡◌, ℕ, ◌≤◌, List, Some, IfSome}
+use Rattle.jul_base.specs.Sources.{AreNamedSources}
 use Rattle.jul_query.specs.declared.queries.Settings.{Settings}
 use Rattle.jul_query.specs.declared.queries.Query.{Query}
 use Rattle.jul_query.specs.declared.queries.Input.{Input}
@@ -7,7 +8,9 @@ use Rattle.jul_query.specs.declared.queries.Input.TheVariants.{GraphFile, Genera
 use Rattle.jul_query.specs.declared.queries.Problem.{Problem}
 use Rattle.jul_query.specs.declared.queries.Problem.TheVariants.{Distances, Cores, Cover}
 use Rattle.jul_query.specs.declared.queries.Work.{Work}
-use Rattle.jul_query.specs.declared.queries.Work.TheVariants.{Solve, Check}
+use Rattle.jul_query.specs.declared.queries.Work.TheVariants.{Solve, Judge}
+use Rattle.jul_query.specs.Splitting.{Split}
+use Rattle.jul_query.specs.Words.{sources_asked}
 
 abbrev pub IsWithin : ℕ → ℕ → ℕ → Type 0
 IsWithin low high k = (low ≤ k) × (k ≤ high)
@@ -21,15 +24,20 @@ abbrev pub IsInputInRange : Input → Type 0
 IsInputInRange (GraphFile name) = Unit {0}
 IsInputInRange (Generated n pairs seed) = IsWithin 1 16777216 n × (pairs ≤ 67108864)
 
--- a bucket of distances is at least 1 wide
+-- the sources increase, and there are some and not too many; a bucket of distances is at least 1 wide
 abbrev pub IsProblemInRange : Problem → Type 0
-IsProblemInRange (Distances source delta) = 1 ≤ delta
+IsProblemInRange (Distances sources delta) = AreNamedSources sources.items × (1 ≤ delta)
 IsProblemInRange Cores = Unit {0}
 IsProblemInRange Cover = Unit {0}
 
 abbrev pub IsWorkInRange : Work → Type 0
 IsWorkInRange (Solve problem form) = IsProblemInRange problem
-IsWorkInRange (Check witness source) = Unit {0}
+IsWorkInRange (Judge purpose witness sources) = IfSome sources (λ named. AreNamedSources named.items)
+
+-- the sources that the words mean
+pub record AreSourcesOf (s : Split) (sources : List ℕ) : Type 0 where
+  pub asked : sources_asked s ≡ Some sources
+  pub named : AreNamedSources sources
 
 pub record IsInRange (q : Query) : Type 0 where
   pub input : IsInputInRange q.input

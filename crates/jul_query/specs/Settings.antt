@@ -7,7 +7,7 @@ use Rattle.jul_query.specs.declared.queries.Query.{Query}
 use Rattle.jul_query.specs.declared.queries.Problem.{Problem}
 use Rattle.jul_query.specs.declared.queries.Problem.TheVariants.{Distances, Cores, Cover}
 use Rattle.jul_query.specs.declared.queries.Work.{Work}
-use Rattle.jul_query.specs.declared.queries.Work.TheVariants.{Solve, Check}
+use Rattle.jul_query.specs.declared.queries.Work.TheVariants.{Solve, Judge}
 use Rattle.jul_query.specs.Numbers.{number_or, open_number, workers_number, chunk_number}
 use Rattle.jul_query.specs.Splitting.{Split, split}
 
@@ -22,13 +22,13 @@ abbrev pub width_asked : Split → Option ℕ
 width_asked s = number_or 1 1 4294967295 s.delta
 
 abbrev pub HasWidth : Split → Problem → Type 0
-HasWidth s (Distances source delta) = width_asked s ≡ Some delta
+HasWidth s (Distances sources delta) = width_asked s ≡ Some delta
 HasWidth s Cores = Unit {0}
 HasWidth s Cover = Unit {0}
 
 abbrev pub HasWidthOf : Split → Work → Type 0
 HasWidthOf s (Solve problem form) = HasWidth s problem
-HasWidthOf s (Check witness source) = Unit {0}
+HasWidthOf s (Judge purpose witness sources) = Unit {0}
 
 pub record HasSettings (q : Query) (s : Split) : Type 0 where
   pub settings : settings_asked s ≡ Some q.settings

@@ -10,11 +10,12 @@ mod numbers;
 mod parsing;
 mod queries;
 mod settings;
+mod sources;
 
 pub use command_line::{CommandLine, split_words};
 pub use counting::is_counted_twice;
 pub use parsing::parse_words;
-pub use queries::{Form, Input, Problem, Query, Settings, Task, Work};
+pub use queries::{Form, Input, Problem, Purpose, Query, Settings, Task, Work};
 
 #[cfg(test)]
 mod tests;

@@ -1,22 +1,21 @@
 //! What the words ask for.
 ghost use Rattle.std.specs.Prelude.{◌≡◌, ◌&&◌, ◌≤◌, not, map, string_bytes, option_map, IfOk, IfSome, Option, Some, None};
 ghost use Rattle.jul_query.specs.CommandLines.{split_by, text_of};
-ghost use Rattle.jul_query.specs.Words.{task_of, distances_asked, has_no_source, problem_asked, has_no_generator, form_asked};
-ghost use Rattle.jul_query.specs.Words.{asked_run, is_plain_check, are_two_files, sources_named, asked_judgement, asked_check};
+ghost use Rattle.jul_query.specs.Words.{task_of, has_no_source, problem_asked, has_no_generator, form_asked};
+ghost use Rattle.jul_query.specs.Words.{asked_run, is_plain_check, are_two_files, asked_judgement, asked_check};
 ghost use Rattle.jul_query.specs.Words.{generated_asked, asked_named, asked_demo, asked_as, asked_split, asked};
-ghost use Rattle.jul_query.specs.Asking.{IsAsked, input_of, problem_of, form_of, named_sources, asked_of, asked_by};
-ghost use Rattle.jul_query.specs.Ranges.{IsInputInRange, IsProblemInRange, IsWorkInRange, IsInRange};
-ghost use Rattle.jul_query.specs.Settings.{HasWidth, HasWidthOf, HasSettings, HasSettingsOf, width_asked};
+ghost use Rattle.jul_query.specs.Asking.{IsAsked, input_of, problem_of, form_of, purpose_of, asked_of, asked_by};
+ghost use Rattle.jul_query.specs.Ranges.{IsInputInRange, IsProblemInRange, IsWorkInRange, IsInRange, AreSourcesOf};
+ghost use Rattle.jul_query.specs.Settings.{HasWidth, HasWidthOf, HasSettings, HasSettingsOf};
 
 use crate::command_line::{CommandLine, split_words};
 use crate::counting::is_counted_twice;
-use crate::numbers::{number, number_in, number_or, wide_number};
-use crate::queries::{Form, Input, Problem, Query, Task, Work};
+use crate::numbers::{number, wide_number};
+use crate::queries::{Form, Input, Problem, Purpose, Query, Task, Work};
 use crate::settings::{has_no_settings, read_settings};
+use crate::sources::{if_named, read_sources};
 use jul_base::MAX_N;
 use std::alloc::{AllocError, Global};
-
-const MAX_SOURCE: u32 = u32::MAX;
 
 const MAX_DELTA: u32 = u32::MAX;
 
@@ -38,21 +37,10 @@ fn task_of(name: &str) -> Option<Task>
     }
 }
 
-// The least distances from the source that is named, or from vertex 0, by buckets of a width.
-fn distances(line: &CommandLine<'_>, delta: u32) -> Option<Problem>
-    requires wide { 1 ≤ delta }
-    requires width { width_asked (split_by line.now) ≡ Some delta }
-
-    ensures asked { option_map problem_of result ≡ distances_asked (split_by line.now) }
-    ensures width { IfSome result (HasWidth (split_by line.now)) }
-    ensures ranges { IfSome result IsProblemInRange }
-{
-    let source = number_or(line.source, 0, 0, MAX_SOURCE)?;
-    Some(Problem::Distances { source, delta })
-}
-
 // The buckets of the weighted breadth-first search are 1 wide.
-fn wbfs_problem(line: &CommandLine<'_>) -> Option<Problem>
+fn wbfs_problem(line: &CommandLine<'_>, sources: Vec<u32>) -> Option<Problem>
+    requires { AreSourcesOf (split_by line.now) sources.items }
+
     ensures asked { option_map problem_of result ≡ problem_asked Task.Wbfs (split_by line.now) }
     ensures width { IfSome result (HasWidth (split_by line.now)) }
     ensures ranges { IfSome result IsProblemInRange }
@@ -60,16 +48,18 @@ fn wbfs_problem(line: &CommandLine<'_>) -> Option<Problem>
     if line.delta.is_some() {
         return None;
     }
-    distances(line, 1)
+    Some(Problem::Distances { sources, delta: 1 })
 }
 
-fn delta_problem(line: &CommandLine<'_>) -> Option<Problem>
+fn delta_problem(line: &CommandLine<'_>, sources: Vec<u32>) -> Option<Problem>
+    requires { AreSourcesOf (split_by line.now) sources.items }
+
     ensures asked { option_map problem_of result ≡ problem_asked Task.Delta (split_by line.now) }
     ensures width { IfSome result (HasWidth (split_by line.now)) }
     ensures ranges { IfSome result IsProblemInRange }
 {
     let delta = number(line.delta, 1, MAX_DELTA)?;
-    distances(line, delta)
+    Some(Problem::Distances { sources, delta })
 }
 
 fn has_no_source(line: &CommandLine<'_>) -> bool
@@ -79,14 +69,16 @@ fn has_no_source(line: &CommandLine<'_>) -> bool
 }
 
 // What is to be found for a task. `--delta` is for the task delta alone, which requires it.
-fn read_problem(task: Task, line: &CommandLine<'_>) -> Option<Problem>
+fn read_problem(task: Task, line: &CommandLine<'_>, sources: Vec<u32>) -> Option<Problem>
+    requires { AreSourcesOf (split_by line.now) sources.items }
+
     ensures asked { option_map problem_of result ≡ problem_asked task (split_by line.now) }
     ensures width { IfSome result (HasWidth (split_by line.now)) }
     ensures ranges { IfSome result IsProblemInRange }
 {
     match task {
-        Task::Wbfs => wbfs_problem(line),
-        Task::Delta => delta_problem(line),
+        Task::Wbfs => wbfs_problem(line, sources),
+        Task::Delta => delta_problem(line, sources),
         Task::Kcore if has_no_source(line) => Some(Problem::Cores),
         Task::Cover if has_no_source(line) => Some(Problem::Cover),
         Task::Kcore | Task::Cover => None,
@@ -107,7 +99,14 @@ fn read_form(line: &CommandLine<'_>) -> Form
     if line.bare { Form::Bare } else { Form::Whole }
 }
 
-fn read_run<'a>(task: Task, graph: &'a str, line: &CommandLine<'a>) -> Option<(Input<'a>, Work<'a>)>
+fn read_run<'a>(
+    task: Task,
+    graph: &'a str,
+    line: &CommandLine<'a>,
+    sources: Vec<u32>,
+) -> Option<(Input<'a>, Work<'a>)>
+    requires { AreSourcesOf (split_by line.now) sources.items }
+
     ensures asked { option_map asked_of result ≡ asked_run task graph.entry.now (split_by line.now) }
     ensures width { IfSome result (λ r. HasWidthOf (split_by line.now) r.1) }
     ensures ranges { IfSome result (λ r. IsInputInRange r.0 × IsWorkInRange r.1) }
@@ -115,7 +114,7 @@ fn read_run<'a>(task: Task, graph: &'a str, line: &CommandLine<'a>) -> Option<(I
     if line.witness.is_some() || !has_no_generator(line) {
         return None;
     }
-    let problem = read_problem(task, line)?;
+    let problem = read_problem(task, line, sources)?;
     Some((
         Input::GraphFile(graph),
         Work::Solve(problem, read_form(line)),
@@ -127,39 +126,36 @@ fn read_named_run<'a>(
     name: &str,
     graph: &'a str,
     line: &CommandLine<'a>,
+    sources: Vec<u32>,
 ) -> Option<(Input<'a>, Work<'a>)>
+    requires { AreSourcesOf (split_by line.now) sources.items }
+
     ensures asked { option_map asked_of result ≡ asked_named name.now graph.entry.now (split_by line.now) }
     ensures width { IfSome result (λ r. HasWidthOf (split_by line.now) r.1) }
     ensures ranges { IfSome result (λ r. IsInputInRange r.0 × IsWorkInRange r.1) }
 {
-    read_run(task_of(name)?, graph, line)
+    read_run(task_of(name)?, graph, line, sources)
 }
 
-// ---- a check
+// ---- a check, and an upgrade
 
-// Whether nothing but a source is said of a check.
+// Whether nothing but sources is said of a check or an upgrade.
 fn is_plain_check(line: &CommandLine<'_>) -> bool
     ensures { result ≡ is_plain_check (split_by line.now) }
 {
     line.delta.is_none() && !line.bare && has_no_settings(line) && has_no_generator(line)
 }
 
-// The source of a check, where it is named.
-fn read_named_source(text: Option<&str>) -> Option<Option<u32>>
-    ensures { option_map named_sources result ≡ sources_named (text_of text.entry) }
-{
-    match text {
-        Some(text) => Some(Some(number_in(text, 0, MAX_SOURCE)?)),
-        None => Some(None),
-    }
-}
-
 fn read_files<'a>(
+    purpose: Purpose,
     graph: &'a str,
     line: &CommandLine<'a>,
     witness: &'a str,
+    sources: Vec<u32>,
 ) -> Option<(Input<'a>, Work<'a>)>
-    ensures asked { option_map asked_of result ≡ asked_judgement graph.entry.now (split_by line.now) witness.entry.now }
+    requires { AreSourcesOf (split_by line.now) sources.items }
+
+    ensures asked { option_map asked_of result ≡ asked_judgement (purpose_of purpose) graph.entry.now (split_by line.now) witness.entry.now }
     ensures width { IfSome result (λ r. HasWidthOf (split_by line.now) r.1) }
     ensures ranges { IfSome result (λ r. IsInputInRange r.0 × IsWorkInRange r.1) }
 {
@@ -167,19 +163,33 @@ fn read_files<'a>(
     if graph == "-" && witness == "-" {
         return None;
     }
-    let source = read_named_source(line.source)?;
-    Some((Input::GraphFile(graph), Work::Check { witness, source }))
+    let sources = if_named(line, sources);
+    Some((
+        Input::GraphFile(graph),
+        Work::Judge {
+            purpose,
+            witness,
+            sources,
+        },
+    ))
 }
 
-fn read_check<'a>(graph: &'a str, line: &CommandLine<'a>) -> Option<(Input<'a>, Work<'a>)>
-    ensures asked { option_map asked_of result ≡ asked_check graph.entry.now (split_by line.now) }
+fn read_check<'a>(
+    purpose: Purpose,
+    graph: &'a str,
+    line: &CommandLine<'a>,
+    sources: Vec<u32>,
+) -> Option<(Input<'a>, Work<'a>)>
+    requires { AreSourcesOf (split_by line.now) sources.items }
+
+    ensures asked { option_map asked_of result ≡ asked_check (purpose_of purpose) graph.entry.now (split_by line.now) }
     ensures width { IfSome result (λ r. HasWidthOf (split_by line.now) r.1) }
     ensures ranges { IfSome result (λ r. IsInputInRange r.0 × IsWorkInRange r.1) }
 {
     if !is_plain_check(line) {
         return None;
     }
-    read_files(graph, line, line.witness?)
+    read_files(purpose, graph, line, line.witness?, sources)
 }
 
 // ---- a demo
@@ -196,7 +206,13 @@ fn read_generated<'a>(line: &CommandLine<'_>) -> Option<Input<'a>>
 }
 
 // The second positional names the task of the demo.
-fn read_demo<'a>(name: &str, line: &CommandLine<'_>) -> Option<(Input<'a>, Work<'a>)>
+fn read_demo<'a>(
+    name: &str,
+    line: &CommandLine<'_>,
+    sources: Vec<u32>,
+) -> Option<(Input<'a>, Work<'a>)>
+    requires { AreSourcesOf (split_by line.now) sources.items }
+
     ensures asked { option_map asked_of result ≡ asked_demo name.now (split_by line.now) }
     ensures width { IfSome result (λ r. HasWidthOf (split_by line.now) r.1) }
     ensures ranges { IfSome result (λ r. IsInputInRange r.0 × IsWorkInRange r.1) }
@@ -205,7 +221,7 @@ fn read_demo<'a>(name: &str, line: &CommandLine<'_>) -> Option<(Input<'a>, Work<
         return None;
     }
     let task = task_of(name)?;
-    let problem = read_problem(task, line)?;
+    let problem = read_problem(task, line, sources)?;
     let input = read_generated(line)?;
     Some((input, Work::Solve(problem, Form::Summary(task))))
 }
@@ -216,27 +232,33 @@ fn read_task<'a>(
     task: &str,
     graph: &'a str,
     line: &CommandLine<'a>,
+    sources: Vec<u32>,
 ) -> Option<(Input<'a>, Work<'a>)>
+    requires { AreSourcesOf (split_by line.now) sources.items }
+
     ensures asked { option_map asked_of result ≡ asked_as task.now graph.entry.now (split_by line.now) }
     ensures width { IfSome result (λ r. HasWidthOf (split_by line.now) r.1) }
     ensures ranges { IfSome result (λ r. IsInputInRange r.0 × IsWorkInRange r.1) }
 {
     match task {
-        "check" => read_check(graph, line),
-        "demo" => read_demo(graph, line),
-        _ => read_named_run(task, graph, line),
+        "check" => read_check(Purpose::Check, graph, line, sources),
+        "upgrade" => read_check(Purpose::Upgrade, graph, line, sources),
+        "demo" => read_demo(graph, line, sources),
+        _ => read_named_run(task, graph, line, sources),
     }
 }
 
-// What a command line asks for.
+// What a command line of these sources asks for.
 #[tactic(auto, unfolding(crate::specs::Words::asked_split))]
-fn read_line<'a>(line: &CommandLine<'a>) -> Option<Query<'a>>
+fn read_query<'a>(line: &CommandLine<'a>, sources: Vec<u32>) -> Option<Query<'a>>
+    requires { AreSourcesOf (split_by line.now) sources.items }
+
     ensures asked { option_map asked_by result ≡ asked_split (split_by line.now) }
     ensures settings { IfSome result (λ q. HasSettings q (split_by line.now)) }
     ensures ranges { IfSome result IsInRange }
 {
     let settings = read_settings(line)?;
-    let (input, work) = read_task(line.task?, line.graph?, line)?;
+    let (input, work) = read_task(line.task?, line.graph?, line, sources)?;
     Some(Query {
         input,
         work,
@@ -244,10 +266,23 @@ fn read_line<'a>(line: &CommandLine<'a>) -> Option<Query<'a>>
     })
 }
 
+// What a command line asks for. The sources are read first, whatever the task: where they are no list, no task is taken.
+fn read_line<'a>(alloc: Global, line: &CommandLine<'a>) -> Result<Option<Query<'a>>, AllocError>
+    ensures asked { IfOk result (λ query. option_map asked_by query ≡ asked_split (split_by line.now)) }
+    ensures settings { IfOk result (λ query. IfSome query (λ q. HasSettings q (split_by line.now))) }
+    ensures ranges { IfOk result (λ query. IfSome query IsInRange) }
+{
+    match read_sources(alloc, line)? {
+        Some(sources) => Ok(read_query(line, sources)),
+        None => Ok(None),
+    }
+}
+
 /// What the words after the program's name ask for, or None where they aren't taken. An Err is want of memory.
 ///
 /// `clap` splits the words; an option or flag given twice is refused before. A number is digits alone, a value that begins
-/// with a minus sign is none, and `check` of standard input against itself isn't taken.
+/// with a minus sign is none, and neither `check` nor `upgrade` of standard input against itself is taken. Sources are the
+/// distinct numbers of a list, increasing.
 pub fn parse_words<'a>(alloc: Global, words: &'a [String]) -> Result<Option<Query<'a>>, AllocError>
     ensures asked { IfOk result (λ query. IsAsked query (asked (map string_bytes words.entry.now))) }
     ensures settings { IfOk result (λ query. IfSome query (HasSettingsOf (map string_bytes words.entry.now))) }
@@ -257,7 +292,7 @@ pub fn parse_words<'a>(alloc: Global, words: &'a [String]) -> Result<Option<Quer
         return Ok(None);
     }
     match split_words(alloc, words)? {
-        Some(line) => Ok(read_line(&line)),
+        Some(line) => read_line(alloc, &line),
         None => Ok(None),
     }
 }

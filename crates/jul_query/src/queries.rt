@@ -47,12 +47,12 @@ pub enum Input<'a> {
 }
 
 /// What is to be found of a graph.
-#[derive(Clone, Copy, Debug, PartialEq, Eq)]
+#[derive(Debug, Drop, PartialEq, Eq)]
 pub enum Problem {
-    /// The least distances from a source.
+    /// The least distances from the nearest of some sources.
     Distances {
-        /// The source vertex.
-        source: u32,
+        /// The source vertices, increasing: at least one, and at most `MAX_SOURCES`.
+        sources: Vec<u32>,
         /// The width of a bucket of distances. The answer doesn't depend on it.
         delta: u32,
     },
@@ -73,17 +73,28 @@ pub enum Form {
     Summary(Task),
 }
 
-/// What is to be done with a graph.
+/// What is written of a witness that is accepted.
 #[derive(Clone, Copy, Debug, PartialEq, Eq)]
+pub enum Purpose {
+    /// The line `yes`.
+    Check,
+    /// The text of its columns, as such texts are written today.
+    Upgrade,
+}
+
+/// What is to be done with a graph.
+#[derive(Debug, Drop, PartialEq, Eq)]
 pub enum Work<'a> {
     /// A problem is solved, and its result is written in a form.
     Solve(Problem, Form),
-    /// A witness is checked.
-    Check {
+    /// A witness is judged.
+    Judge {
+        /// What is written where it is accepted.
+        purpose: Purpose,
         /// The name of the witness file, or `-` for standard input.
         witness: &'a str,
-        /// The source vertex, where the words name one.
-        source: Option<u32>,
+        /// The source vertices, where the words name some: increasing, at least one, and at most `MAX_SOURCES`.
+        sources: Option<Vec<u32>>,
     },
 }
 
@@ -99,7 +110,7 @@ pub struct Settings {
 }
 
 /// What the words ask for.
-#[derive(Clone, Copy, Debug, PartialEq, Eq)]
+#[derive(Debug, Drop, PartialEq, Eq)]
 pub struct Query<'a> {
     /// Where the graph comes from.
     pub input: Input<'a>,
