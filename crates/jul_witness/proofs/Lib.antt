@@ -3,6 +3,7 @@ pub mod RoleLaws
 pub mod ReadingLaws
 pub mod ScanningLaws
 pub mod LawfulLaws
+pub mod SourceLaws
 pub mod PartLaws
 pub mod ReadBackLaws
 pub mod ResultLaws

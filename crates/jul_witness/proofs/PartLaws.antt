@@ -7,7 +7,7 @@ use Rattle.std.proofs.lemmas.List.{append_assoc, append-nil, length-append, leng
 use Rattle.std.proofs.lemmas.List.Folds.{list_all-append}
 use Rattle.std.proofs.lemmas.Grind.{flat_map-append}
 use Rattle.std.proofs.lemmas.Fmt.{length-decimal-le}
-use Rattle.jul_base.specs.declared.limits.TheConstants.{NONE, MAX_N, MAX_BYTES}
+use Rattle.jul_base.specs.declared.limits.TheConstants.{NONE, MAX_N, MAX_M, MAX_SOURCES, MAX_BYTES}
 use Rattle.jul_base.specs.Numbers.{below}
 use Rattle.jul_text.specs.Lines.{line_of}
 use Rattle.jul_text.specs.Tokens.{tokens}
@@ -15,7 +15,7 @@ use Rattle.jul_text.proofs.LineLaws.{texts, is_token, is_token-decimal, Parted, 
 use Rattle.jul_witness.specs.declared.forms.Form.{Form}
 use Rattle.jul_witness.specs.declared.forms.Form.TheVariants as forms
 use Rattle.jul_witness.specs.Forms.{word_of}
-use Rattle.jul_witness.specs.Texts.{value_text, values_line, vertex_line, vertex_lines, head_lines, result_text}
+use Rattle.jul_witness.specs.Texts.{value_text, values_line, vertex_line, vertex_lines, head_lines, sources_line, result_text}
 use Rattle.jul_witness.proofs.TextLaws.{length-below}
 
 -- numbers of 64 bits
@@ -48,7 +48,7 @@ row_fits (c ∷ cs) v fit = (number_fits c v fit.0, row_fits cs v fit.1)
 abbrev part : List ℕ → ℕ → Parted
 part token white = record { token = token; white = white }
 
-line_parts : List ℕ → List Parted
+pub line_parts : List ℕ → List Parted
 line_parts [] = []
 line_parts (x ∷ []) = part (value_text x) 10 ∷ []
 line_parts (x ∷ y ∷ ys) = part (value_text x) 32 ∷ line_parts (y ∷ ys)
@@ -121,32 +121,61 @@ word_is_token forms.Cores = refl
 word_is_token forms.Distances = refl
 word_is_token forms.Cover = refl
 
-text_parts : Form → ℕ → List (List ℕ) → List Parted
-text_parts form n columns = part (word_of form) 10 ∷ part (decimal n) 10 ∷ vertex_parts columns (below n)
+text_parts : Form → ℕ → ℕ → List Parted → List (List ℕ) → List Parted
+text_parts form n m named columns = part (word_of form) 10 ∷ (line_parts (n ∷ m ∷ []) ++ (named ++ vertex_parts columns (below n)))
 
-text-text_parts : (form : Form) (n : ℕ) (c : List ℕ) (cs : List (List ℕ)) → flat_map part_text (text_parts form n (c ∷ cs)) ≡ result_text form n (c ∷ cs)
-unfolding text_parts
-text-text_parts form n c cs =
-    ap (λ (t : List ℕ). line_of (word_of form) ++ (line_of (decimal n) ++ t)) (text-vertex_parts c cs (below n))
-    ∙ sym (append_assoc (line_of (word_of form)) (line_of (decimal n)) (vertex_lines (c ∷ cs) n))
+-- parts between the first two lines and those of the vertices
+pub record AreParts (text : List ℕ) (tokens : List (List ℕ)) (parts : List Parted) : Type 0 where
+  pub text_is : flat_map part_text parts ≡ text
+  pub tokens_are : map (λ (p : Parted). p.token) parts ≡ tokens
+  pub parted : list_all is_parted parts ≡ true
 
-parted-text_parts : (form : Form) (n : ℕ) (columns : List (List ℕ)) → n ≤ MAX_N → AreColumns columns → list_all is_parted (text_parts form n columns) ≡ true
-unfolding text_parts
-parted-text_parts form n columns few fit =
-    both (is_parted (part (word_of form) 10)) (is_parted (part (decimal n) 10) && list_all is_parted (vertex_parts columns (below n)))
-    (both (is_token (word_of form)) true (word_is_token form) refl)
-    (both (is_parted (part (decimal n) 10)) (list_all is_parted (vertex_parts columns (below n)))
-    (both (is_token (decimal n)) true (is_token-decimal n (omega arith)) refl)
-    (parted-vertex_parts columns (below n) fit))
+pub no_parts : AreParts [] [] []
+no_parts = record { text_is = refl; tokens_are = refl; parted = refl }
 
--- the text is read as the word, the number of vertices, and the numbers of each vertex
-pub texts-result_text : (form : Form) (n : ℕ) (c : List ℕ) (cs : List (List ℕ)) → n ≤ MAX_N → AreColumns (c ∷ cs) →
-    texts (tokens (result_text form n (c ∷ cs))) ≡ word_of form ∷ decimal n ∷ entries (c ∷ cs) (below n)
-unfolding text_parts
-texts-result_text form n c cs few fit =
-    ap (λ (bytes : List ℕ). texts (tokens bytes)) (sym (text-text_parts form n c cs))
-    ∙ texts-parts 0 (text_parts form n (c ∷ cs)) (parted-text_parts form n (c ∷ cs) few fit)
-    ∙ ap (λ (ts : List (List ℕ)). word_of form ∷ decimal n ∷ ts) (tokens-vertex_parts (c ∷ cs) (below n))
+-- those of the sources
+pub source_parts : (x : ℕ) (xs : List ℕ) → AreWords (x ∷ xs) → AreParts (values_line (x ∷ xs)) (map value_text (x ∷ xs)) (line_parts (x ∷ xs))
+source_parts x xs fit = record { text_is = text-line_parts x xs; tokens_are = tokens-line_parts (x ∷ xs); parted = parted-line_parts (x ∷ xs) fit }
+
+module _ (form : Form) (n m : ℕ) (few : n ≤ MAX_N) (fewer : m ≤ MAX_M) (c : List ℕ) (cs : List (List ℕ)) (fit : AreColumns (c ∷ cs))
+    (named : List ℕ) (tokens_named : List (List ℕ)) (parts : List Parted) (are : AreParts named tokens_named parts) where
+  text-text_parts : flat_map part_text (text_parts form n m parts (c ∷ cs)) ≡ result_text form n m named (c ∷ cs)
+  unfolding text_parts
+  text-text_parts =
+      ap (λ (t : List ℕ). line_of (word_of form) ++ t)
+      (flat_map-append part_text (line_parts (n ∷ m ∷ [])) (parts ++ vertex_parts (c ∷ cs) (below n))
+      ∙ ap (λ (t : List ℕ). t ++ flat_map part_text (parts ++ vertex_parts (c ∷ cs) (below n))) (text-line_parts n (m ∷ []))
+      ∙ ap (λ (t : List ℕ). values_line (n ∷ m ∷ []) ++ t)
+      (flat_map-append part_text parts (vertex_parts (c ∷ cs) (below n))
+      ∙ ap (λ (t : List ℕ). t ++ flat_map part_text (vertex_parts (c ∷ cs) (below n))) are.text_is
+      ∙ ap (λ (t : List ℕ). named ++ t) (text-vertex_parts c cs (below n))))
+      ∙ sym (append_assoc (line_of (word_of form)) (values_line (n ∷ m ∷ [])) (named ++ vertex_lines (c ∷ cs) n))
+
+  parted-text_parts : list_all is_parted (text_parts form n m parts (c ∷ cs)) ≡ true
+  unfolding text_parts
+  parted-text_parts =
+      both (is_parted (part (word_of form) 10)) (list_all is_parted (line_parts (n ∷ m ∷ []) ++ (parts ++ vertex_parts (c ∷ cs) (below n))))
+      (both (is_token (word_of form)) true (word_is_token form) refl)
+      (list_all-append is_parted (line_parts (n ∷ m ∷ [])) (parts ++ vertex_parts (c ∷ cs) (below n))
+      ∙ both (list_all is_parted (line_parts (n ∷ m ∷ []))) (list_all is_parted (parts ++ vertex_parts (c ∷ cs) (below n)))
+      (parted-line_parts (n ∷ m ∷ []) (omega arith, (omega arith, tt)))
+      (list_all-append is_parted parts (vertex_parts (c ∷ cs) (below n))
+      ∙ both (list_all is_parted parts) (list_all is_parted (vertex_parts (c ∷ cs) (below n))) are.parted (parted-vertex_parts (c ∷ cs) (below n) fit)))
+
+  -- the text is read as the word, the sizes, what is named, and the numbers of each vertex
+  pub texts-result_text : texts (tokens (result_text form n m named (c ∷ cs)))
+      ≡ word_of form ∷ value_text n ∷ value_text m ∷ (tokens_named ++ entries (c ∷ cs) (below n))
+  unfolding text_parts
+  texts-result_text =
+      ap (λ (bytes : List ℕ). texts (tokens bytes)) (sym text-text_parts)
+      ∙ texts-parts 0 (text_parts form n m parts (c ∷ cs)) parted-text_parts
+      ∙ ap (λ (ts : List (List ℕ)). word_of form ∷ ts)
+      (map-append (λ (p : Parted). p.token) (line_parts (n ∷ m ∷ [])) (parts ++ vertex_parts (c ∷ cs) (below n))
+      ∙ ap (λ (ts : List (List ℕ)). ts ++ map (λ (p : Parted). p.token) (parts ++ vertex_parts (c ∷ cs) (below n))) (tokens-line_parts (n ∷ m ∷ []))
+      ∙ ap (λ (ts : List (List ℕ)). value_text n ∷ value_text m ∷ ts)
+      (map-append (λ (p : Parted). p.token) parts (vertex_parts (c ∷ cs) (below n))
+      ∙ ap (λ (ts : List (List ℕ)). ts ++ map (λ (p : Parted). p.token) (vertex_parts (c ∷ cs) (below n))) are.tokens_are
+      ∙ ap (λ (ts : List (List ℕ)). tokens_named ++ ts) (tokens-vertex_parts (c ∷ cs) (below n))))
 
 -- ---- its length
 
@@ -171,31 +200,35 @@ lines_short piece most [] each = omega arith
 lines_short piece most (v ∷ vs) each =
     omega (arith, length-append (piece v) (flat_map piece vs), each v, lines_short piece most vs each)
 
-word_short : (form : Form) → length (line_of (word_of form)) ≤ 10
+word_short : (form : Form) → length (line_of (word_of form)) ≤ 11
 word_short forms.Cores = omega arith
 word_short forms.Distances = omega arith
 word_short forms.Cover = omega arith
 
-head_short : (form : Form) (n : ℕ) → n ≤ MAX_N → length (head_lines (word_of form) n) ≤ 31
-head_short form n few =
+head_short : (form : Form) (n m : ℕ) → n ≤ MAX_N → m ≤ MAX_M → length (head_lines form n m) ≤ 53
+head_short form n m few fewer =
     omega (
       arith,
-      length-append (line_of (word_of form)) (line_of (decimal n)),
-      length-append (decimal n) (10 ∷ []),
+      length-append (line_of (word_of form)) (values_line (n ∷ m ∷ [])),
       word_short form,
-      length-decimal-le 20 n (omega arith) (omega arith) (omega arith),
+      line_short n (m ∷ []) (omega arith, (omega arith, tt)),
     )
 
 -- at most 21 bytes a number
-pub result_text-short : (form : Form) (n : ℕ) (c : List ℕ) (cs : List (List ℕ)) (most : ℕ) → n ≤ MAX_N → AreColumns (c ∷ cs) → 21 * length (c ∷ cs) ≤ most → most ≤ 63 →
-    length (result_text form n (c ∷ cs)) < MAX_BYTES
-result_text-short form n c cs most few fit width within =
+pub sources_short : (sources : List ℕ) → AreWords (length sources ∷ sources) → length sources ≤ MAX_SOURCES → length (sources_line sources) ≤ 21525
+sources_short sources fit few = omega (arith, line_short (length sources) sources fit)
+
+pub result_text-short : (form : Form) (n m : ℕ) (named : List ℕ) (c : List ℕ) (cs : List (List ℕ)) (most : ℕ) → n ≤ MAX_N → m ≤ MAX_M → length named ≤ 21525 →
+    AreColumns (c ∷ cs) → 21 * length (c ∷ cs) ≤ most → most ≤ 63 → length (result_text form n m named (c ∷ cs)) < MAX_BYTES
+result_text-short form n m named c cs most few fewer little fit width within =
     let each : (v : ℕ) → length (vertex_line (c ∷ cs) v) ≤ 63 = λ v.
     omega (arith, line_short (get_or c v 0) (row_of cs v) (row_fits (c ∷ cs) v fit), length-map cs (λ (column : List ℕ). get_or column v 0), width, within) in
     omega (
       arith,
-      length-append (head_lines (word_of form) n) (vertex_lines (c ∷ cs) n),
-      head_short form n few,
+      length-append (head_lines form n m) (named ++ vertex_lines (c ∷ cs) n),
+      length-append named (vertex_lines (c ∷ cs) n),
+      head_short form n m few fewer,
+      little,
       lines_short (vertex_line (c ∷ cs)) 63 (below n) each,
       length-below n,
     )

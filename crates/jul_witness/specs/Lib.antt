@@ -2,6 +2,8 @@ pub mod Names
 pub mod Forms
 pub mod Texts
 pub mod Lawful
+pub mod Roles
+pub mod Faults
 pub mod Reading
 pub mod Scanning
 pub mod Summaries

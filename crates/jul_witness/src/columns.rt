@@ -3,18 +3,19 @@ ghost use Rattle.std.specs.Prelude.{◌≡◌, ◌+◌, ◌*◌, ◌<◌, ◌≤
 ghost use Rattle.jul_text.specs.Tokens.{tokens};
 ghost use Rattle.jul_text.specs.Scanning.{text_at};
 ghost use Rattle.jul_witness.specs.Forms.{columns_of};
-ghost use Rattle.jul_witness.specs.Reading.{entry_of, all_tokens, column_of, read_tokens, Fails};
+ghost use Rattle.jul_witness.specs.Roles.{front, all_tokens};
+ghost use Rattle.jul_witness.specs.Reading.{entry_of, column_of, read_tokens, Fails};
 ghost use Rattle.jul_witness.specs.Scanning.{IsClean};
 
 use crate::faults::{WitnessError, WitnessFault};
-use crate::forms::Form;
+use crate::forms::Heading;
 use crate::scanning::{Place, next_entry};
 use std::alloc::Global;
 
-// For how many of `n` vertices with `width` numbers each to take room: a short file may ask for many
-// more than it has.
+/// For how many of `n` rows with `width` numbers each to take room: a short file may ask for many more than
+/// it has.
 #[inline]
-fn room(bytes: &[u8], place: Place, n: u64, width: usize) -> usize
+pub(crate) fn room(bytes: &[u8], place: Place, n: u64, width: usize) -> usize
     requires { 0 < width }
 
     ensures { result ≤ n }
@@ -26,22 +27,26 @@ fn room(bytes: &[u8], place: Place, n: u64, width: usize) -> usize
 
 // The next two numbers.
 #[inline]
-fn next_pair(bytes: &[u8], place: Place, form: Form) -> Result<((u64, u64), Place), WitnessFault>
-    requires clean { IsClean form bytes.now place.at place.token }
-    requires behind { 2 ≤ place.token }
-    requires asked { place.token + 1 < all_tokens form (tokens bytes.now) }
+fn next_pair(
+    bytes: &[u8],
+    place: Place,
+    heading: Heading,
+) -> Result<((u64, u64), Place), WitnessFault>
+    requires clean { IsClean heading bytes.now place.at place.token }
+    requires behind { front heading (tokens bytes.now) ≤ place.token }
+    requires asked { place.token + 1 < all_tokens heading (tokens bytes.now) }
 
     ensures first { IfOk result (λ r.
-        entry_of form (text_at (tokens bytes.now) place.token) ≡ Some r.0.0) }
+        entry_of heading.form (text_at (tokens bytes.now) place.token) ≡ Some r.0.0) }
     ensures second { IfOk result (λ r.
-        entry_of form (text_at (tokens bytes.now) (place.token + 1)) ≡ Some r.0.1) }
-    ensures next { IfOk result (λ r. IsClean form bytes.now r.1.at r.1.token) }
+        entry_of heading.form (text_at (tokens bytes.now) (place.token + 1)) ≡ Some r.0.1) }
+    ensures next { IfOk result (λ r. IsClean heading bytes.now r.1.at r.1.token) }
     ensures token { IfOk result (λ r. r.1.token ≡ place.token + 2) }
 
     ensures err { IfErr result (λ f. read_tokens (tokens bytes.now) (length bytes.now) ≡ Err f) }
 {
-    let (first, place) = next_entry(bytes, place, form)?;
-    let (second, place) = next_entry(bytes, place, form)?;
+    let (first, place) = next_entry(bytes, place, heading)?;
+    let (second, place) = next_entry(bytes, place, heading)?;
     Ok(((first, second), place))
 }
 
@@ -50,18 +55,18 @@ pub(crate) fn read_pairs(
     alloc: Global,
     bytes: &[u8],
     mut place: Place,
-    form: Form,
+    heading: Heading,
     n: u64,
 ) -> Result<((Vec<u64>, Vec<u64>), Place), WitnessError>
-    requires clean { IsClean form bytes.now place.at place.token }
-    requires start { place.token ≡ 2 }
-    requires columns { columns_of form ≡ 2 }
-    requires asked { all_tokens form (tokens bytes.now) ≡ 2 + 2 * n }
+    requires clean { IsClean heading bytes.now place.at place.token }
+    requires start { place.token ≡ front heading (tokens bytes.now) }
+    requires columns { columns_of heading.form ≡ 2 }
+    requires asked { all_tokens heading (tokens bytes.now) ≡ place.token + 2 * n }
 
-    ensures first { IfOk result (λ r. r.0.0.items ≡ column_of form (tokens bytes.now) n 0) }
-    ensures second { IfOk result (λ r. r.0.1.items ≡ column_of form (tokens bytes.now) n 1) }
-    ensures next { IfOk result (λ r. IsClean form bytes.now r.1.at r.1.token) }
-    ensures token { IfOk result (λ r. r.1.token ≡ 2 + 2 * n) }
+    ensures first { IfOk result (λ r. r.0.0.items ≡ column_of heading (tokens bytes.now) n 0) }
+    ensures second { IfOk result (λ r. r.0.1.items ≡ column_of heading (tokens bytes.now) n 1) }
+    ensures next { IfOk result (λ r. IsClean heading bytes.now r.1.at r.1.token) }
+    ensures token { IfOk result (λ r. r.1.token ≡ all_tokens heading (tokens bytes.now)) }
 
     ensures err { IfErr result (λ e. Fails e (read_tokens (tokens bytes.now) (length bytes.now))) }
 {
@@ -69,7 +74,7 @@ pub(crate) fn read_pairs(
     let mut firsts = Vec::with_capacity(alloc, room)?;
     let mut seconds = Vec::with_capacity(alloc, room)?;
     for _ in 0..n {
-        let ((first, second), next) = next_pair(bytes, place, form)?;
+        let ((first, second), next) = next_pair(bytes, place, heading)?;
         firsts.push(first)?;
         seconds.push(second)?;
         place = next;
@@ -82,26 +87,26 @@ pub(crate) fn read_pairs(
 fn next_triple(
     bytes: &[u8],
     place: Place,
-    form: Form,
+    heading: Heading,
 ) -> Result<((u64, u64, u64), Place), WitnessFault>
-    requires clean { IsClean form bytes.now place.at place.token }
-    requires behind { 2 ≤ place.token }
-    requires asked { place.token + 2 < all_tokens form (tokens bytes.now) }
+    requires clean { IsClean heading bytes.now place.at place.token }
+    requires behind { front heading (tokens bytes.now) ≤ place.token }
+    requires asked { place.token + 2 < all_tokens heading (tokens bytes.now) }
 
     ensures first { IfOk result (λ r.
-        entry_of form (text_at (tokens bytes.now) place.token) ≡ Some r.0.0) }
+        entry_of heading.form (text_at (tokens bytes.now) place.token) ≡ Some r.0.0) }
     ensures second { IfOk result (λ r.
-        entry_of form (text_at (tokens bytes.now) (place.token + 1)) ≡ Some r.0.1) }
+        entry_of heading.form (text_at (tokens bytes.now) (place.token + 1)) ≡ Some r.0.1) }
     ensures third { IfOk result (λ r.
-        entry_of form (text_at (tokens bytes.now) (place.token + 2)) ≡ Some r.0.2) }
-    ensures next { IfOk result (λ r. IsClean form bytes.now r.1.at r.1.token) }
+        entry_of heading.form (text_at (tokens bytes.now) (place.token + 2)) ≡ Some r.0.2) }
+    ensures next { IfOk result (λ r. IsClean heading bytes.now r.1.at r.1.token) }
     ensures token { IfOk result (λ r. r.1.token ≡ place.token + 3) }
 
     ensures err { IfErr result (λ f. read_tokens (tokens bytes.now) (length bytes.now) ≡ Err f) }
 {
-    let (first, place) = next_entry(bytes, place, form)?;
-    let (second, place) = next_entry(bytes, place, form)?;
-    let (third, place) = next_entry(bytes, place, form)?;
+    let (first, place) = next_entry(bytes, place, heading)?;
+    let (second, place) = next_entry(bytes, place, heading)?;
+    let (third, place) = next_entry(bytes, place, heading)?;
     Ok(((first, second, third), place))
 }
 
@@ -110,19 +115,19 @@ pub(crate) fn read_triples(
     alloc: Global,
     bytes: &[u8],
     mut place: Place,
-    form: Form,
+    heading: Heading,
     n: u64,
 ) -> Result<((Vec<u64>, Vec<u64>, Vec<u64>), Place), WitnessError>
-    requires clean { IsClean form bytes.now place.at place.token }
-    requires start { place.token ≡ 2 }
-    requires columns { columns_of form ≡ 3 }
-    requires asked { all_tokens form (tokens bytes.now) ≡ 2 + 3 * n }
+    requires clean { IsClean heading bytes.now place.at place.token }
+    requires start { place.token ≡ front heading (tokens bytes.now) }
+    requires columns { columns_of heading.form ≡ 3 }
+    requires asked { all_tokens heading (tokens bytes.now) ≡ place.token + 3 * n }
 
-    ensures first { IfOk result (λ r. r.0.0.items ≡ column_of form (tokens bytes.now) n 0) }
-    ensures second { IfOk result (λ r. r.0.1.items ≡ column_of form (tokens bytes.now) n 1) }
-    ensures third { IfOk result (λ r. r.0.2.items ≡ column_of form (tokens bytes.now) n 2) }
-    ensures next { IfOk result (λ r. IsClean form bytes.now r.1.at r.1.token) }
-    ensures token { IfOk result (λ r. r.1.token ≡ 2 + 3 * n) }
+    ensures first { IfOk result (λ r. r.0.0.items ≡ column_of heading (tokens bytes.now) n 0) }
+    ensures second { IfOk result (λ r. r.0.1.items ≡ column_of heading (tokens bytes.now) n 1) }
+    ensures third { IfOk result (λ r. r.0.2.items ≡ column_of heading (tokens bytes.now) n 2) }
+    ensures next { IfOk result (λ r. IsClean heading bytes.now r.1.at r.1.token) }
+    ensures token { IfOk result (λ r. r.1.token ≡ all_tokens heading (tokens bytes.now)) }
 
     ensures err { IfErr result (λ e. Fails e (read_tokens (tokens bytes.now) (length bytes.now))) }
 {
@@ -131,7 +136,7 @@ pub(crate) fn read_triples(
     let mut seconds = Vec::with_capacity(alloc, room)?;
     let mut thirds = Vec::with_capacity(alloc, room)?;
     for _ in 0..n {
-        let ((first, second, third), next) = next_triple(bytes, place, form)?;
+        let ((first, second, third), next) = next_triple(bytes, place, heading)?;
         firsts.push(first)?;
         seconds.push(second)?;
         thirds.push(third)?;

@@ -10,7 +10,7 @@ use thiserror::Error;
 /// What is wrong with a witness file.
 #[derive(Clone, Copy, Debug, PartialEq, Eq)]
 pub enum WitnessKind {
-    /// The first token is none of `Cores`, `Distances` and `Cover`.
+    /// The first token is none of `Cores`, `Distances` and `Cover`, nor one of these with a 2 behind it.
     Header,
     /// A token is no number of its range, nor a minus sign that may stand there for `NONE`.
     Number,
@@ -20,6 +20,8 @@ pub enum WitnessKind {
     Trailing,
     /// The file is longer than the limit.
     TooLong,
+    /// A source isn't greater than the source before it.
+    SourceOrder,
 }
 
 impl WitnessKind {
@@ -34,6 +36,7 @@ impl WitnessKind {
             WitnessKind::Truncated => "Truncated",
             WitnessKind::Trailing => "Trailing",
             WitnessKind::TooLong => "TooLong",
+            WitnessKind::SourceOrder => "SourceOrder",
         }
     }
 }

@@ -1,42 +1,96 @@
-//! The parts of a text of a result: its first two lines, and a line for each vertex.
-ghost use Rattle.std.specs.Prelude.{◌≡◌, ◌^◌, ◌<◌, ◌≤◌, [], ◌∷◌, ◌++◌, length, OnOk, OnErr};
+//! The parts of a text of a result: its first two lines, that of the sources, and a line for each vertex.
+ghost use Rattle.std.specs.Prelude.{◌≡◌, ◌^◌, ◌<◌, ◌≤◌, [], ◌∷◌, ◌++◌, length, codes, OnOk, OnErr};
 ghost use Rattle.std.specs.List.{All};
-ghost use Rattle.jul_base.specs.declared.limits.TheConstants.{MAX_N};
 ghost use Rattle.jul_base.specs.Sinks.{FailedWriting, IsSent};
 ghost use Rattle.jul_text.specs.Lines.{line_of};
 ghost use Rattle.jul_witness.specs.Forms.{word_of};
-ghost use Rattle.jul_witness.specs.Texts.{value_text, values_line, head_lines, vertex_lines};
+ghost use Rattle.jul_witness.specs.Texts.{value_text, values_line, spaced_value, spaced_values, head_lines, sources_line, vertex_lines};
 
 use crate::forms::Form;
 use jul_base::{Failed, NONE, Sink, TextBlock};
 
-/// Puts the word and the number of vertices, each on a line.
+/// Puts the word on a line, and the numbers of vertices and places on another.
 pub(crate) fn put_head<S: Sink>(
     block: &mut TextBlock,
     sink: &mut S,
     form: Form,
     n: usize,
+    m: u32,
 ) -> Result<(), Failed>
-    requires { n ≤ MAX_N }
-
     ensures ok { OnOk result (IsSent (S.state sink.old) (S.state sink.new) block.new
-        (block.old ++ head_lines (word_of form) n)) }
+        (block.old ++ head_lines form n m)) }
     ensures err { OnErr result (FailedWriting (S.state sink.old) (S.state sink.new)
-        (block.old ++ head_lines (word_of form) n)) }
+        (block.old ++ head_lines form n m)) }
     ensures faults { (S.state sink.old).faults ≤ (S.state sink.new).faults }
 {
     block.put(sink, first_line(form))?;
-    put_value(block, sink, n as u64, b"\n")
+    put_pair(block, sink, n as u64, u64::from(m))
 }
 
 fn first_line(form: Form) -> &'static [u8]
     ensures { result.now ≡ line_of (word_of form) }
 {
     match form {
-        Form::Cores => b"Cores\n",
-        Form::Distances => b"Distances\n",
-        Form::Cover => b"Cover\n",
+        Form::Cores => b"Cores2\n",
+        Form::Distances => b"Distances2\n",
+        Form::Cover => b"Cover2\n",
     }
+}
+
+/// Puts the number of sources and the sources on a line.
+pub(crate) fn put_sources<S: Sink>(
+    block: &mut TextBlock,
+    sink: &mut S,
+    sources: &[u32],
+) -> Result<(), Failed>
+    ensures ok { OnOk result (IsSent (S.state sink.old) (S.state sink.new) block.new
+        (block.old ++ sources_line sources.now)) }
+    ensures err { OnErr result (FailedWriting (S.state sink.old) (S.state sink.new)
+        (block.old ++ sources_line sources.now)) }
+    ensures faults { (S.state sink.old).faults ≤ (S.state sink.new).faults }
+    ensures numbers { All (λ s. s < 2 ^ 32) sources.now }
+{
+    put_number(block, sink, sources.len() as u64)?;
+    put_rest(block, sink, sources)
+}
+
+// Puts the rest of a line: a space and a number for each, and LF.
+fn put_rest<S: Sink>(block: &mut TextBlock, sink: &mut S, numbers: &[u32]) -> Result<(), Failed>
+    ensures ok { OnOk result (IsSent (S.state sink.old) (S.state sink.new) block.new
+        (block.old ++ (spaced_values numbers.now ++ codes "\n"))) }
+    ensures err { OnErr result (FailedWriting (S.state sink.old) (S.state sink.new)
+        (block.old ++ (spaced_values numbers.now ++ codes "\n"))) }
+    ensures faults { (S.state sink.old).faults ≤ (S.state sink.new).faults }
+    ensures numbers { All (λ s. s < 2 ^ 32) numbers.now }
+{
+    put_each(block, sink, numbers)?;
+    block.put(sink, b"\n")
+}
+
+// Puts a space and a number for each.
+fn put_each<S: Sink>(block: &mut TextBlock, sink: &mut S, numbers: &[u32]) -> Result<(), Failed>
+    ensures ok { OnOk result (IsSent (S.state sink.old) (S.state sink.new) block.new
+        (block.old ++ spaced_values numbers.now)) }
+    ensures err { OnErr result (FailedWriting (S.state sink.old) (S.state sink.new)
+        (block.old ++ spaced_values numbers.now)) }
+    ensures faults { (S.state sink.old).faults ≤ (S.state sink.new).faults }
+    ensures numbers { All (λ s. s < 2 ^ 32) numbers.now }
+{
+    for number in numbers {
+        put_spaced(block, sink, u64::from(*number))?;
+    }
+    Ok(())
+}
+
+fn put_spaced<S: Sink>(block: &mut TextBlock, sink: &mut S, value: u64) -> Result<(), Failed>
+    ensures ok { OnOk result (IsSent (S.state sink.old) (S.state sink.new) block.new
+        (block.old ++ spaced_value value)) }
+    ensures err { OnErr result (FailedWriting (S.state sink.old) (S.state sink.new)
+        (block.old ++ spaced_value value)) }
+    ensures faults { (S.state sink.old).faults ≤ (S.state sink.new).faults }
+{
+    block.put(sink, b" ")?;
+    put_number(block, sink, value)
 }
 
 /// Puts a line for each vertex, of its numbers in two columns.

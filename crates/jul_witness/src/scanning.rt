@@ -5,12 +5,14 @@ ghost use Rattle.jul_text.specs.Tokens.{tokens};
 ghost use Rattle.jul_text.specs.Scanning.{text_at};
 ghost use Rattle.jul_text.specs.Numerals.{numeral};
 ghost use Rattle.jul_text.specs.Shapes.{shape};
-ghost use Rattle.jul_witness.specs.Reading.{number_of, entry_of, fault_without, kind_at};
-ghost use Rattle.jul_witness.specs.Reading.{all_tokens, witness_of, read_tokens};
+ghost use Rattle.jul_witness.specs.Roles.{number_of, front, all_tokens};
+ghost use Rattle.jul_witness.specs.Faults.{rule_fault, kind_at};
+ghost use Rattle.jul_witness.specs.Reading.{entry_of, witness_of, read_tokens};
 ghost use Rattle.jul_witness.specs.Scanning.{IsClean};
 
 use crate::faults::{WitnessFault, WitnessKind};
-use crate::forms::{Form, has_dashes};
+use crate::forms::Heading;
+use crate::rules::{Rule, entry};
 use jul_base::NONE;
 use jul_text::{Numeral, Shape, next_shape, next_token, shape_number};
 
@@ -59,23 +61,23 @@ fn number_up_to(token: &[u8], what: Shape, dash: bool, bound: u64) -> Option<u64
     }
 }
 
-/// The next token as a number up to a bound.
+/// The next token as a number of a rule.
 #[inline]
 pub(crate) fn next_value(
     bytes: &[u8],
     place: Place,
-    form: Form,
-    dash: bool,
-    bound: u64,
+    heading: Heading,
+    rule: Rule,
 ) -> Result<(u64, Place), WitnessFault>
-    requires clean { IsClean form bytes.now place.at place.token }
-    requires role { kind_at form (tokens bytes.now) place.token
-        ≡ fault_without (number_of dash bound (text_at (tokens bytes.now) place.token)) }
-    requires asked { place.token < all_tokens form (tokens bytes.now) }
+    requires clean { IsClean heading bytes.now place.at place.token }
+    requires ruled { kind_at heading (tokens bytes.now) place.token
+        ≡ rule_fault rule (text_at (tokens bytes.now) place.token) }
+    requires asked { place.token < all_tokens heading (tokens bytes.now) }
 
     ensures value { IfOk result (λ r.
-        number_of dash bound (text_at (tokens bytes.now) place.token) ≡ Some r.0) }
-    ensures next { IfOk result (λ r. IsClean form bytes.now r.1.at r.1.token) }
+        number_of rule.dash rule.bound (text_at (tokens bytes.now) place.token) ≡ Some r.0) }
+    ensures least { IfOk result (λ r. rule.least ≤ r.0) }
+    ensures next { IfOk result (λ r. IsClean heading bytes.now r.1.at r.1.token) }
     ensures token { IfOk result (λ r. r.1.token ≡ place.token + 1) }
 
     ensures err { IfErr result (λ f. read_tokens (tokens bytes.now) (length bytes.now) ≡ Err f) }
@@ -83,9 +85,13 @@ pub(crate) fn next_value(
     let Some((token, what)) = next_shape(bytes, place.at) else {
         return Err(fault(WitnessKind::Truncated, place.token, bytes.len()));
     };
-    let Some(value) = number_up_to(&bytes[token.start..token.end], what, dash, bound) else {
+    let text = &bytes[token.start..token.end];
+    let Some(value) = number_up_to(text, what, rule.dash, rule.bound) else {
         return Err(fault(WitnessKind::Number, place.token, token.start));
     };
+    if value < rule.least {
+        return Err(fault(rule.low, place.token, token.start));
+    }
     let next = Place {
         at: token.end,
         token: place.token + 1,
@@ -99,28 +105,29 @@ pub(crate) fn next_value(
 pub(crate) fn next_entry(
     bytes: &[u8],
     place: Place,
-    form: Form,
+    heading: Heading,
 ) -> Result<(u64, Place), WitnessFault>
-    requires clean { IsClean form bytes.now place.at place.token }
-    requires behind { 2 ≤ place.token }
-    requires asked { place.token < all_tokens form (tokens bytes.now) }
+    requires clean { IsClean heading bytes.now place.at place.token }
+    requires behind { front heading (tokens bytes.now) ≤ place.token }
+    requires asked { place.token < all_tokens heading (tokens bytes.now) }
 
-    ensures value { IfOk result (λ r. entry_of form (text_at (tokens bytes.now) place.token) ≡ Some r.0) }
-    ensures next { IfOk result (λ r. IsClean form bytes.now r.1.at r.1.token) }
+    ensures value { IfOk result (λ r.
+        entry_of heading.form (text_at (tokens bytes.now) place.token) ≡ Some r.0) }
+    ensures next { IfOk result (λ r. IsClean heading bytes.now r.1.at r.1.token) }
     ensures token { IfOk result (λ r. r.1.token ≡ place.token + 1) }
 
     ensures err { IfErr result (λ f. read_tokens (tokens bytes.now) (length bytes.now) ≡ Err f) }
 {
-    next_value(bytes, place, form, has_dashes(form), NONE - 1)
+    next_value(bytes, place, heading, entry(heading.form))
 }
 
 /// Nothing more is to come: a token behind the last one is a fault.
-pub(crate) fn expect_end(bytes: &[u8], place: Place, form: Form) -> Result<(), WitnessFault>
-    requires clean { IsClean form bytes.now place.at place.token }
-    requires last { place.token ≡ all_tokens form (tokens bytes.now) }
+pub(crate) fn expect_end(bytes: &[u8], place: Place, heading: Heading) -> Result<(), WitnessFault>
+    requires clean { IsClean heading bytes.now place.at place.token }
+    requires last { place.token ≡ all_tokens heading (tokens bytes.now) }
 
     ensures ok { OnOk result (read_tokens (tokens bytes.now) (length bytes.now)
-        ≡ Ok (witness_of form (tokens bytes.now))) }
+        ≡ Ok (witness_of heading (tokens bytes.now))) }
     ensures err { IfErr result (λ f. read_tokens (tokens bytes.now) (length bytes.now) ≡ Err f) }
 {
     match next_token(bytes, place.at) {

@@ -1,17 +1,18 @@
 //! What a witness file holds.
 ghost use Rattle.std.specs.Prelude.{◌≡◌, ◌≤◌, ◌<◌, ◌^◌, length, Ok, OnOk, OnErr};
 ghost use Rattle.std.specs.List.{All};
-ghost use Rattle.jul_base.specs.declared.limits.TheConstants.{MAX_BYTES};
+ghost use Rattle.jul_base.specs.declared.limits.TheConstants.{MAX_M, MAX_BYTES};
 ghost use Rattle.jul_base.specs.Sinks.{Appended, FailedWriting};
+ghost use Rattle.jul_base.specs.Sources.{AreNamedSources};
 ghost use Rattle.jul_witness.specs.Lawful.{IsLawful};
 ghost use Rattle.jul_witness.specs.Reading.{reads_witness};
 
 use crate::texts::{write_cores, write_cover, write_distances};
-use jul_base::{Column, Cores, Cover, Distances, Failed, Sink};
+use jul_base::{Column, Cores, Cover, Distances, Failed, Ids, Sink};
 
-/// A result that was read from a text.
+/// A result, by its columns.
 #[derive(Drop)]
-pub enum Witness {
+pub enum Columns {
     /// Cores and levels.
     Cores(Cores),
     /// Distances, hops and parents.
@@ -20,41 +21,61 @@ pub enum Witness {
     Cover(Cover),
 }
 
-impl Witness {
-    ghost use Rattle.jul_witness.specs.Texts.{witness_text};
+/// A result that was read from a text, and what the text says of its graph.
+#[derive(Drop)]
+pub struct Witness {
+    /// The number of places of the graph. None exactly in version 1.
+    pub places: Option<u32>,
+    /// The sources that distances are from, in increasing order. There exactly for distances of version 2.
+    pub sources: Option<Ids>,
+    /// The columns.
+    pub columns: Columns,
+}
 
-    /// Writes the text of the result. After `Failed` a part of it was appended that isn't the whole. Takes no memory.
-    pub fn write<S: Sink>(&self, sink: &mut S) -> Result<(), Failed>
-        requires { IsLawful self.now }
+impl Columns {
+    ghost use Rattle.jul_witness.specs.Texts.{columns_text, witness_of_columns};
 
-        ensures ok { OnOk result (Appended (S.state sink.old) (S.state sink.new) (witness_text self.now)) }
+    /// Writes the text of the result in a graph of `m` places, of distances with their sources. After `Failed` a
+    /// part of it was appended that isn't the whole. Takes no memory.
+    pub fn write<S: Sink>(&self, sink: &mut S, m: u32, sources: &[u32]) -> Result<(), Failed>
+        requires few { m ≤ MAX_M }
+        requires sources { AreNamedSources sources.now }
+        requires lawful { IsLawful self.now }
+
+        ensures ok { OnOk result (Appended (S.state sink.old) (S.state sink.new)
+            (columns_text m sources.now self.now)) }
         ensures err { OnErr result (FailedWriting (S.state sink.old) (S.state sink.new)
-            (witness_text self.now)) }
+            (columns_text m sources.now self.now)) }
     {
         match self {
-            Witness::Cores(c) => write_cores(sink, c),
-            Witness::Distances(d) => write_distances(sink, d),
-            Witness::Cover(c) => write_cover(sink, c),
+            Columns::Cores(c) => write_cores(sink, m, c),
+            Columns::Distances(d) => write_distances(sink, m, sources, d),
+            Columns::Cover(c) => write_cover(sink, m, c),
         }
     }
 
-    /// A law, which the contract carries: the text of the result is read back as the result. Does nothing when it runs.
-    pub fn is_read_back(&self)
-        requires { IsLawful self.now }
+    /// A law, which the contract carries: the text of the result is read back as version 2 with these numbers. Does
+    /// nothing when it runs.
+    pub fn is_read_back(&self, m: u32, sources: &[u32])
+        requires few { m ≤ MAX_M }
+        requires sources { AreNamedSources sources.now }
+        requires lawful { IsLawful self.now }
 
-        ensures { reads_witness (witness_text self.now) MAX_BYTES ≡ Ok self.now }
+        ensures { reads_witness (columns_text m sources.now self.now) MAX_BYTES
+            ≡ Ok (witness_of_columns m sources.now self.now) }
     {
         match self {
-            Witness::Cores(c) => {
+            Columns::Cores(c) => {
                 has_64_bits(&c.core);
                 has_64_bits(&c.level);
             }
-            Witness::Distances(d) => {
+            Columns::Distances(d) => {
+                fit_32_bits(sources);
                 has_64_bits(&d.dist);
                 has_64_bits(&d.hops);
                 has_64_bits(&d.parent);
             }
-            Witness::Cover(c) => {
+            Columns::Cover(c) => {
                 has_64_bits(&c.round);
                 has_64_bits(&c.by);
             }
@@ -72,6 +93,13 @@ fn has_64_bits(column: &Column)
 // A law: the numbers of a list of 64 bits do.
 fn fit_64_bits(numbers: &[u64])
     ensures { All (λ x. x < 2 ^ 64) numbers.now }
+{
+    let _numbers = numbers;
+}
+
+// A law: the numbers of a list of 32 bits do.
+fn fit_32_bits(numbers: &[u32])
+    ensures { All (λ x. x < 2 ^ 32) numbers.now }
 {
     let _numbers = numbers;
 }

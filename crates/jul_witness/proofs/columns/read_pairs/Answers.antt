@@ -14,9 +14,9 @@ loop-preserved c =
       first =
           c.in_ok-push.ensures.items
           ∙ ap (λ (xs : List ℕ). xs ++ c.in_ok-first.first ∷ []) c.loop.invariant.first
-          ∙ column_push c.args.form ws 2 v 0 j c.in_ok-first.first c.requires.columns (omega (arith, c.loop.invariant.token)) c.in_ok-first.ensures.first;
+          ∙ column_push c.args.heading ws 2 v 0 j c.in_ok-first.first c.requires.columns (omega (arith, c.loop.invariant.token)) c.in_ok-first.ensures.first;
       second =
           c.in_ok-push-2.ensures.items
           ∙ ap (λ (xs : List ℕ). xs ++ c.in_ok-first.second ∷ []) c.loop.invariant.second
-          ∙ column_push c.args.form ws 2 v 1 (j + 1) c.in_ok-first.second c.requires.columns (omega (arith, c.loop.invariant.token)) c.in_ok-first.ensures.second;
+          ∙ column_push c.args.heading ws 2 v 1 (j + 1) c.in_ok-first.second c.requires.columns (omega (arith, c.loop.invariant.token)) c.in_ok-first.ensures.second;
     }

@@ -8,32 +8,32 @@ use Rattle.jul_witness.specs.Texts.{result_text, cores_text}
 use Rattle.jul_witness.proofs.ResultLaws.{reads-cores_text, cores_text-short}
 use Rattle.jul_witness.proofs.texts.write_cores.Goals as goal
 
-text_is : (v : Cores) (xs ys : List ℕ) → xs ≡ v.core → ys ≡ v.level → result_text forms.Cores (length xs) (xs ∷ ys ∷ []) ≡ cores_text v
+text_is : (m : ℕ) (v : Cores) (xs ys : List ℕ) → xs ≡ v.core → ys ≡ v.level → result_text forms.Cores (length xs) m [] (xs ∷ ys ∷ []) ≡ cores_text m v
 unfolding cores_text
-text_is v xs ys a b =
-    ap (λ (t : List ℕ). result_text forms.Cores (length t) (t ∷ ys ∷ [])) a
-    ∙ ap (λ (t : List ℕ). result_text forms.Cores (length v.core) (v.core ∷ t ∷ [])) b
+text_is m v xs ys a b =
+    ap (λ (t : List ℕ). result_text forms.Cores (length t) m [] (t ∷ ys ∷ [])) a
+    ∙ ap (λ (t : List ℕ). result_text forms.Cores (length v.core) m [] (v.core ∷ t ∷ [])) b
 
 pub returns-clause-ok : goal.returns-clause-ok
 returns-clause-ok g c =
     on_ok_weaker c.write_pairs.result
-    (λ whole. subst (Appended (g.S.Sink.state c.args.sink.now) (g.S.Sink.state c.write_pairs.new.sink)) (text_is c.args.c.now c.as_slice.result.now c.as_slice-2.result.now c.as_slice.ensures c.as_slice-2.ensures) whole)
+    (λ whole. subst (Appended (g.S.Sink.state c.args.sink.now) (g.S.Sink.state c.write_pairs.new.sink)) (text_is c.args.m c.args.c.now c.as_slice.result.now c.as_slice-2.result.now c.as_slice.ensures c.as_slice-2.ensures) whole)
     c.write_pairs.ensures.ok
 
 pub returns-clause-err : goal.returns-clause-err
 returns-clause-err g c =
     on_err_weaker c.write_pairs.result
-    (λ failed. subst (FailedWriting (g.S.Sink.state c.args.sink.now) (g.S.Sink.state c.write_pairs.new.sink)) (text_is c.args.c.now c.as_slice.result.now c.as_slice-2.result.now c.as_slice.ensures c.as_slice-2.ensures) failed)
+    (λ failed. subst (FailedWriting (g.S.Sink.state c.args.sink.now) (g.S.Sink.state c.write_pairs.new.sink)) (text_is c.args.m c.args.c.now c.as_slice.result.now c.as_slice-2.result.now c.as_slice.ensures c.as_slice-2.ensures) failed)
     c.write_pairs.ensures.err
 
 pub returns-clause-read_back : goal.returns-clause-read_back
 returns-clause-read_back g c =
-    reads-cores_text c.args.c.now c.requires
+    reads-cores_text c.args.m c.args.c.now c.requires.few c.requires.lawful
     (subst (λ (xs : List ℕ). All (λ x. x < 2 ^ 64) xs) c.as_slice.ensures c.write_pairs.ensures.first)
     (subst (λ (xs : List ℕ). All (λ x. x < 2 ^ 64) xs) c.as_slice-2.ensures c.write_pairs.ensures.second)
 
 pub returns-clause-short : goal.returns-clause-short
 returns-clause-short g c =
-    cores_text-short c.args.c.now c.requires
+    cores_text-short c.args.m c.args.c.now c.requires.few c.requires.lawful
     (subst (λ (xs : List ℕ). All (λ x. x < 2 ^ 64) xs) c.as_slice.ensures c.write_pairs.ensures.first)
     (subst (λ (xs : List ℕ). All (λ x. x < 2 ^ 64) xs) c.as_slice-2.ensures c.write_pairs.ensures.second)

@@ -3,7 +3,6 @@ use Rattle.std.proofs.lemmas.Result.{on_err_weaker}
 use Rattle.jul_base.specs.Sinks.{SinkState, IsSent}
 use Rattle.jul_base.proofs.SinkLaws.{IsSent-then, FailedWriting-then}
 use Rattle.jul_base.proofs.SendingLaws.{on_err_holds, failed_at_end}
-use Rattle.jul_witness.specs.Forms.{word_of}
 use Rattle.jul_witness.specs.Texts.{head_lines, vertex_lines}
 use Rattle.jul_witness.proofs.texts.write_pairs.Goals as goal
 
@@ -13,7 +12,7 @@ returns-in_err-put_pairs-clause-err g c =
     let s0 : SinkState = g.S.Sink.state c.args.sink.now in
     let s1 : SinkState = g.S.Sink.state c.put_head.new.sink in
     let s2 : SinkState = g.S.Sink.state c.put_pairs.new.sink in
-    let head : List ℕ = head_lines (word_of c.args.form) n in
+    let head : List ℕ = head_lines c.args.form n c.args.m in
     let sent : IsSent s0 s1 c.put_head.new.block head =
     subst (λ (old : List ℕ). IsSent s0 s1 c.put_head.new.block (old ++ head)) c.new-block.ensures c.in_ok-put_head.ensures.ok in
     on_err_holds c.from_residual-in_err-put_pairs.result
@@ -26,7 +25,7 @@ returns-clause-err g c =
     let s1 : SinkState = g.S.Sink.state c.put_head.new.sink in
     let s2 : SinkState = g.S.Sink.state c.put_pairs.new.sink in
     let s3 : SinkState = g.S.Sink.state c.flush.new.sink in
-    let head : List ℕ = head_lines (word_of c.args.form) n in
+    let head : List ℕ = head_lines c.args.form n c.args.m in
     let lines : List ℕ = vertex_lines (c.args.first.now ∷ c.args.second.now ∷ []) n in
     let sent : IsSent s0 s1 c.put_head.new.block head =
     subst (λ (old : List ℕ). IsSent s0 s1 c.put_head.new.block (old ++ head)) c.new-block.ensures c.in_ok-put_head.ensures.ok in
