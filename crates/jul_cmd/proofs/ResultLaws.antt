@@ -1,12 +1,8 @@
 -- Results that are written whole: they can be written, and a check accepts them.
-use Rattle.std.proofs.Common.{◌≡◌, ◌≢◌, ℕ, ◌<◌, ◌≤◌, List, [], ◌∷◌, get_or, Option, Some, None, Result, Ok, refl, sym, ◌∙◌, subst, ap, arith, inl, inr, MatchOption}
-use Rattle.std.specs.Prelude.{codes}
-use Rattle.std.specs.List.{All}
-use Rattle.std.proofs.lemmas.Bool.{cases_lt, cond-true, cond-false, lt-ltb, le-ltb}
-use Rattle.std.proofs.lemmas.Bool.Decides.{Decides-eqb}
-use Rattle.std.proofs.lemmas.List.Elements.{All-nil, All-cons, All-contains, All-from_get_or}
+use Rattle.std.proofs.Common.{◌≡◌, ◌≢◌, ℕ, ◌<◌, ◌≤◌, List, get_or, Option, Some, None, Ok, refl, sym, ◌∙◌, ap, arith, MatchOption}
+use Rattle.std.proofs.lemmas.List.Elements.{All-contains, All-from_get_or}
 use Rattle.jul_base.specs.declared.graphs.RawGraph.{RawGraph}
-use Rattle.jul_base.specs.declared.limits.TheConstants.{NONE, MAX_BYTES}
+use Rattle.jul_base.specs.declared.limits.TheConstants.{NONE}
 use Rattle.jul_base.specs.declared.results.Cores.{Cores}
 use Rattle.jul_base.specs.declared.results.Distances.{Distances}
 use Rattle.jul_base.specs.declared.results.Cover.{Cover}
@@ -33,7 +29,6 @@ use Rattle.jul_check.proofs.CoreAcceptLaws.{peeled_accepted}
 use Rattle.jul_check.proofs.DistanceAcceptLaws.{tree_accepted}
 use Rattle.jul_check.proofs.CoverAcceptLaws.{rounds_accepted}
 use Rattle.jul_cmd.specs.declared.statuses.Status.{Status}
-use Rattle.jul_cmd.specs.declared.statuses.Status.TheVariants.{Done, SourceRange}
 use Rattle.jul_query.specs.Queries.{Problem, distances, cores, cover}
 use Rattle.jul_cmd.specs.Suited.{refusal_of_sources, IsSuited}
 use Rattle.jul_cmd.specs.Checking.{size_of, judged}

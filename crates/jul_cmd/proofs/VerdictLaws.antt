@@ -22,7 +22,7 @@ use Rattle.jul_check.specs.declared.verdicts.Verdict.TheVariants.{Yes, No}
 use Rattle.jul_check.specs.CoreChecks.{cores_verdict}
 use Rattle.jul_check.specs.DistanceChecks.{distances_verdict}
 use Rattle.jul_check.specs.CoverChecks.{cover_verdict}
-use Rattle.jul_query.specs.Queries.{Purpose, check, upgrade}
+use Rattle.jul_query.specs.Queries.{Purpose, check}
 use Rattle.jul_cmd.specs.declared.statuses.Status.{Status}
 use Rattle.jul_cmd.specs.declared.statuses.Status.TheVariants.{Done, SizeDiffers, PlacesDiffer, SourcesDiffer}
 use Rattle.jul_cmd.specs.Suited.{refusal_of_sources}
@@ -30,7 +30,7 @@ use Rattle.jul_cmd.specs.Files.{witness_of_file}
 use Rattle.jul_cmd.specs.Checking.{size_of, refusal_of_size, refusal_of_places, difference_at, refusal_of_names, or_else, refusal_of_witness, sources_meant, unless, judged, judged_witness}
 use Rattle.jul_cmd.specs.Checking.{yes_text, verdict_status, verdict_text, IsVerdictTold, IsTold, IsAccepted, AreBorneOut, IsJudged}
 use Rattle.jul_cmd.specs.Statuses.{stage_of}
-use Rattle.jul_cmd.specs.Parts.{IsGiven, IsWitnessRefusal, IsWitnessRefused, Judges}
+use Rattle.jul_cmd.specs.Parts.{IsWitnessRefusal, IsWitnessRefused, Judges}
 use Rattle.jul_cmd.proofs.SourceLaws.{refusal_stage}
 
 -- what is said of the value of a result
@@ -217,11 +217,14 @@ refused_as : (g : RawGraph) (purpose : Purpose) (given : Option (List ℕ)) (w :
     IsWitnessRefused g purpose given (Ok w) status
 refused_as g purpose given w status stage is =
     let P : Result Verdict Status → Type 0 = λ r. IsVerdictTold (yes_text purpose (places g) (sources_meant w.sources given) w.columns) r status [] in
-    inl (stage, record {
-      told = subst P (sym is) (refl, refl);
-      sound = λ done. absurd (omega (arith, stage, ap stage_of done));
-      accepted = λ up done. absurd (omega (arith, stage, ap stage_of done));
-    })
+    inl (
+      stage,
+      record {
+        told = subst P (sym is) (refl, refl);
+        sound = λ done. absurd (omega (arith, stage, ap stage_of done));
+        accepted = λ up done. absurd (omega (arith, stage, ap stage_of done));
+      },
+    )
 
 pub witness_refused : (g : RawGraph) (purpose : Purpose) (given : Option (List ℕ)) (w : Witness) (status : Status) → refusal_of_witness g given w ≡ Some status →
     IsWitnessRefused g purpose given (Ok w) status

@@ -59,11 +59,7 @@ fn check_places(named: Option<u32>, m: u32) -> Result<(), Status>
 }
 
 // Whether a witness goes with the graph and with the sources that the words name, or the first refusal.
-fn check_witness(
-    rows: &Rows,
-    given: &Option<Vec<u32>>,
-    witness: &Witness,
-) -> Result<(), Status>
+fn check_witness(rows: &Rows, given: &Option<Vec<u32>>, witness: &Witness) -> Result<(), Status>
     requires lawful { IsLawfulWitness witness.now }
     ensures none { OnOk result
         (refusal_of_witness rows.now (named_sources given.now) witness.now ≡ None) }
@@ -184,7 +180,9 @@ fn judge_witness(
 {
     check_witness(rows, &given, &witness)?;
     let Witness {
-        sources, columns, ..
+        sources,
+        columns,
+        ..
     } = witness;
     let sources = witness_sources(alloc, sources, given)?;
     let verdict = judge_columns(alloc, rows, sources.as_slice(), &columns)?;

@@ -1,7 +1,6 @@
-use Rattle.std.proofs.Common.{None, Some, refl, ◌≡◌, ◌∙◌}
+use Rattle.std.proofs.Common.{refl, ◌∙◌}
 use Rattle.std.proofs.lemmas.Result.{on_ok_weaker, IfErr-weaker}
 use Rattle.jul_query.specs.Asking.{named_sources}
-use Rattle.jul_cmd.specs.Checking.{refusal_of_witness}
 use Rattle.jul_cmd.proofs.VerdictLaws.{at_err, refusal_is}
 use Rattle.jul_cmd.proofs.checking.check_witness.Goals as goal
 

@@ -1,7 +1,7 @@
 use Rattle.std.proofs.Common.{Ok, sym, ◌∙◌, ap}
 use Rattle.jul_check.specs.declared.verdicts.Verdict.{Verdict}
 use Rattle.jul_query.specs.Asking.{named_sources, purpose_of}
-use Rattle.jul_cmd.specs.Checking.{judged, yes_text, verdict_text}
+use Rattle.jul_cmd.specs.Checking.{yes_text, verdict_text}
 use Rattle.jul_cmd.proofs.VerdictLaws.{at_err, size_same, witness_refused, columns_refused, columns_judged, read_back_named}
 use Rattle.jul_cmd.proofs.checking.judge_witness.Goals as goal
 
