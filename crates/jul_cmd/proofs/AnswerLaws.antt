@@ -2,6 +2,7 @@
 use Rattle.std.proofs.Common.{◌≡◌, ℕ, ◌≤◌, List, [], ◌∷◌, take, Option, Some, None, Result, Ok, Err, IfSome, IfOk, refl, sym, ◌∙◌, subst, ap, arith, inl, inr}
 use Rattle.std.specs.Option.{option_map, IsSomeAnd}
 use Rattle.std.proofs.lemmas.List.{take_all}
+use Rattle.std.proofs.lemmas.Result.{IfOk-weaker}
 use Rattle.jul_base.specs.declared.graphs.RawGraph.{RawGraph}
 use Rattle.jul_base.specs.Graph.{vertices}
 use Rattle.jul_base.specs.Sinks.{SinkState, Appended}
@@ -9,20 +10,21 @@ use Rattle.jul_base.specs.Shelves.{ShelfState, Told, File, IsMissing, contents, 
 use Rattle.jul_base.specs.Loading.{FailedLoading}
 use Rattle.jul_base.proofs.SinkLaws.{Rose-after, Appended-none}
 use Rattle.jul_witness.specs.declared.faults.WitnessFault.{WitnessFault as FaultOfWitness}
+use Rattle.jul_witness.specs.declared.witnesses.Witness.{Witness}
 use Rattle.jul_cmd.specs.declared.statuses.Status.{Status}
 use Rattle.jul_cmd.specs.declared.statuses.Status.TheVariants.{Usage, GraphFault, WitnessFault, ReadFault, WriteFault, Memory}
 use Rattle.jul_cmd.specs.declared.statuses.Which.TheVariants as which
 use Rattle.jul_cmd.specs.declared.replies.Reply.{Reply}
 use Rattle.jul_cmd.specs.Statuses.{stage_of}
-use Rattle.jul_query.specs.Queries.{Input, graph_file, generated, Problem, distances, cores, cover, Form, Work, solve, check, meant, witness_name, Asked}
+use Rattle.jul_query.specs.Queries.{Input, graph_file, generated, Problem, distances, cores, cover, Form, Purpose, Work, solve, judge, witness_name, Asked}
 use Rattle.jul_query.specs.Words.{asked}
-use Rattle.jul_cmd.specs.Files.{graph_of_file, IsFile, IsOpenedLast, IsAtEnd, IsRead}
+use Rattle.jul_cmd.specs.Files.{graph_of_file, witness_of_file, IsFile, IsOpenedLast, IsAtEnd, IsRead}
 use Rattle.jul_cmd.specs.Suited.{IsUnsuited}
 use Rattle.jul_cmd.specs.Solving.{IsDone, IsSolved}
-use Rattle.jul_cmd.specs.Checking.{IsTold, judged_file, IsChecked}
+use Rattle.jul_cmd.specs.Checking.{IsTold, IsJudged, IsChecked}
 use Rattle.jul_cmd.specs.Answers.{InputSays}
 use Rattle.jul_cmd.specs.Outcomes.{IsTooLong, HasRead, read_before, IsAnswer, HasCause, IsUntroubled, IsComplete}
-use Rattle.jul_cmd.specs.Parts.{IsGiven, IsInputRead, IsInputUnread, IsWitnessUnread, IsUnsolved, HasChecked, IsUnchecked, IsRefusal, IsRefused, text_of}
+use Rattle.jul_cmd.specs.Parts.{IsGiven, IsInputRead, IsInputUnread, IsWitnessUnread, IsUnsolved, IsWitnessRefused, HasChecked, IsUnchecked, IsRefusal, IsRefused, text_of}
 use Rattle.jul_cmd.proofs.SourceLaws.{refusal_stage}
 use Rattle.jul_cmd.proofs.QueryLaws.{named_file}
 use Rattle.jul_cmd.proofs.FileLaws.{graph_to_end, fault_to_end, witness_to_end}
@@ -93,7 +95,7 @@ input_refused (generated n pairs seed) work a b status memory = inr (inr memory)
 -- ---- a problem that is solved
 
 -- the graph is refused at its stage
-unsuited_stage : (g : RawGraph) (problem : Problem) (status : Status) → IsUnsuited g problem status → stage_of status ≡ 4
+unsuited_stage : (g : RawGraph) (problem : Problem) (status : Status) → IsUnsuited g problem status → stage_of status ≡ 6
 unsuited_stage g (distances sources) status unsuited = refusal_stage (vertices g) sources status unsuited
 unsuited_stage g cores status (p, first, is) = ap stage_of is
 unsuited_stage g cover status none = absurd none
@@ -129,41 +131,45 @@ pub solve_refused : (input : Input) (work : Work) (problem : Problem) (form : Fo
     IsInputRead input a b g → IsUnsolved g problem status → IsRefused (query_of input work) a b status
 solve_refused input work problem form a b g status e read (inr memory) = inr (inr memory)
 solve_refused input work problem form a b g status e read (inl unsuited) =
-    let at : stage_of status ≡ 4 = unsuited_stage g problem status unsuited in
+    let at : stage_of status ≡ 6 = unsuited_stage g problem status unsuited in
     inl ((omega (arith, at), omega (arith, at)), solve_answer input work problem form a b g status [] e read (omega (arith, at)) (inl (unsuited, refl)))
 
--- ---- the check
+-- ---- a witness that is judged
 
-fault_is_told : (g : RawGraph) (sources : List ℕ) (fault : FaultOfWitness) → IsTold (judged_file g sources (Err fault)) (WitnessFault fault) []
-unfolding judged_file
-fault_is_told g sources fault = (refl, refl)
-
-told_fault : (g : RawGraph) (sources : List ℕ) (fault : FaultOfWitness) (status : Status) (text : List ℕ) → IsTold (judged_file g sources (Err fault)) status text → status ≡ WitnessFault fault
-unfolding judged_file
-told_fault g sources fault status text told = told.0
-
-pub unread_refused : (a b : ShelfState) (g : RawGraph) (name sources : List ℕ) (status : Status) → IsWitnessUnread a b name status → IsUnchecked a b g name sources status
-unread_refused a b g name sources status (inr unloaded) = inr unloaded
-unread_refused a b g name sources status (inl faulty) =
+pub unread_refused : (a b : ShelfState) (g : RawGraph) (purpose : Purpose) (name : List ℕ) (given : Option (List ℕ)) (status : Status) → IsWitnessUnread a b name status → IsUnchecked a b g purpose name given status
+unread_refused a b g purpose name given status (inr unloaded) = inr unloaded
+unread_refused a b g purpose name given status (inl faulty) =
     let f = faulty.fault in
-    let checked : HasChecked a b g name sources (WitnessFault f) [] =
+    let checked : HasChecked a b g purpose name given (WitnessFault f) [] =
     record {
       witness = Err f;
       read = faulty.read;
-      judged = record { told = fault_is_told g sources f; sound = λ done. absurd (omega (arith, ap stage_of done)) };
+      judged = record { told = (refl, refl); sound = λ done. absurd (omega (arith, ap stage_of done)); accepted = λ up done. absurd (omega (arith, ap stage_of done)) };
     }
-    in subst (IsUnchecked a b g name sources) (sym faulty.is) (inl ((omega (arith), omega (arith)), checked))
+    in subst (IsUnchecked a b g purpose name given) (sym faulty.is) (inl ((omega (arith), omega (arith)), checked))
+
+-- a witness that was read and judged
+pub read_checked : (a b : ShelfState) (g : RawGraph) (purpose : Purpose) (name : List ℕ) (given : Option (List ℕ)) (w : Witness) (r : Result Reply Status) → IsRead witness_of_file a b name (Ok w) →
+    IfOk r (λ reply. IsJudged g purpose given (Ok w) reply.status (text_of reply.text)) → IfOk r (λ reply. HasChecked a b g purpose name given reply.status (text_of reply.text))
+read_checked a b g purpose name given w r read =
+    IfOk-weaker r (λ reply. IsJudged g purpose given (Ok w) reply.status (text_of reply.text)) _ (λ reply judged. record { witness = Ok w; read = read; judged = judged })
+
+pub read_refused : (a b : ShelfState) (g : RawGraph) (purpose : Purpose) (name : List ℕ) (given : Option (List ℕ)) (w : Witness) (status : Status) → IsRead witness_of_file a b name (Ok w) →
+    IsWitnessRefused g purpose given (Ok w) status → IsUnchecked a b g purpose name given status
+read_refused a b g purpose name given w status read (inl (stage, judged)) = inl (stage, record { witness = Ok w; read = read; judged = judged })
+read_refused a b g purpose name given w status read (inr memory) = inr (inr memory)
 
 -- no byte is left of a witness that was judged, unless the status says that it is too long
-checked_to_end : (b c : ShelfState) (g : RawGraph) (name sources : List ℕ) (status : Status) (text : List ℕ) → HasChecked b c g name sources status text → (IsTooLong status → ⊥) → IsAtEnd c
-checked_to_end b c g name sources status text checked other =
+checked_to_end : (b c : ShelfState) (g : RawGraph) (purpose : Purpose) (name : List ℕ) (given : Option (List ℕ)) (status : Status) (text : List ℕ) → HasChecked b c g purpose name given status text →
+    (IsTooLong status → ⊥) → IsAtEnd c
+checked_to_end b c g purpose name given status text checked other =
     witness_to_end b c name checked.witness checked.read (λ f e long.
-    let told = subst (λ r. IsTold (judged_file g sources r) status text) e checked.judged.told in
-    other (subst IsTooLong (sym (told_fault g sources f status text told)) long))
+    let told : IsTold purpose g given (Err f) status text = subst (λ (r : Result Witness FaultOfWitness). IsTold purpose g given r status text) e checked.judged.told in
+    other (subst IsTooLong (sym told.0) long))
 
-check_said : (a b c : ShelfState) (graph : List ℕ) (g : RawGraph) (name sources : List ℕ) (status : Status) (text : List ℕ) → IsRead graph_of_file a b graph (Ok g) →
-    HasChecked b c g name sources status text → IsChecked a g name sources status text
-check_said a b c graph g name sources status text read checked =
+check_said : (a b c : ShelfState) (graph : List ℕ) (g : RawGraph) (purpose : Purpose) (name : List ℕ) (given : Option (List ℕ)) (status : Status) (text : List ℕ) → IsRead graph_of_file a b graph (Ok g) →
+    HasChecked b c g purpose name given status text → IsChecked a g purpose name given status text
+check_said a b c graph g purpose name given status text read checked =
     let content = checked.read.content in
     record {
       witness = checked.witness;
@@ -171,16 +177,16 @@ check_said a b c graph g name sources status text read checked =
       judged = checked.judged;
     }
 
-check_answer : (input : Input) (work : Work) (a b c : ShelfState) (g : RawGraph) (name : List ℕ) (sources : Option (List ℕ)) (status : Status) (text : List ℕ) → work ≡ check name sources →
-    IsInputRead input a b g → 2 ≤ stage_of status → HasChecked b c g name (meant sources) status text → IsAnswer (query_of input work) a c status text
-check_answer (graph_file graph) work a b c g name sources status text e read le checked =
+check_answer : (input : Input) (work : Work) (a b c : ShelfState) (g : RawGraph) (purpose : Purpose) (name : List ℕ) (given : Option (List ℕ)) (status : Status) (text : List ℕ) → work ≡ judge purpose name given →
+    IsInputRead input a b g → 2 ≤ stage_of status → HasChecked b c g purpose name given status text → IsAnswer (query_of input work) a c status text
+check_answer (graph_file graph) work a b c g purpose name given status text e read le checked =
     subst (λ w. IsAnswer (query_of (graph_file graph) w) a c status text) (sym e) (record {
-      answer = record { graph = Ok g; input = read.content; answer = check_said a b c graph g name (meant sources) status text read checked };
+      answer = record { graph = Ok g; input = read.content; answer = check_said a b c graph g purpose name given status text read checked };
       read = subst (λ names. HasRead a c names status) (sym (take_all (stage_of status) (graph ∷ name ∷ []) le))
-          (IsOpenedLast-then a b c graph name read.last checked.read.last, λ other. checked_to_end b c g name (meant sources) status text checked other);
+          (IsOpenedLast-then a b c graph name read.last checked.read.last, λ other. checked_to_end b c g purpose name given status text checked other);
     })
-check_answer (generated n pairs seed) work a b c g name sources status text e read le checked =
-    let own : HasChecked a c g name (meant sources) status text = subst (λ s. HasChecked s c g name (meant sources) status text) read.0 checked in
+check_answer (generated n pairs seed) work a b c g purpose name given status text e read le checked =
+    let own : HasChecked a c g purpose name given status text = subst (λ s. HasChecked s c g purpose name given status text) read.0 checked in
     subst (λ w. IsAnswer (query_of (generated n pairs seed) w) a c status text) (sym e) (record {
       answer = record {
         graph = Ok g;
@@ -188,33 +194,33 @@ check_answer (generated n pairs seed) work a b c g name sources status text e re
         answer = record { witness = own.witness; file = own.read.content; judged = own.judged };
       };
       read = subst (λ names. HasRead a c names status) (sym (take_all (stage_of status) (name ∷ []) (omega (arith, le))))
-          (own.read.last, λ other. checked_to_end a c g name (meant sources) status text own other);
+          (own.read.last, λ other. checked_to_end a c g purpose name given status text own other);
     })
 
-pub checked_done : (input : Input) (work : Work) (a b c : ShelfState) (g : RawGraph) (name : List ℕ) (sources : Option (List ℕ)) (r : Result Reply Status) → work ≡ check name sources →
-    IsInputRead input a b g → IfOk r (λ reply. IsGiven reply.status) → IfOk r (λ reply. HasChecked b c g name (meant sources) reply.status (text_of reply.text)) →
+pub checked_done : (input : Input) (work : Work) (a b c : ShelfState) (g : RawGraph) (purpose : Purpose) (name : List ℕ) (given : Option (List ℕ)) (r : Result Reply Status) → work ≡ judge purpose name given →
+    IsInputRead input a b g → IfOk r (λ reply. IsGiven reply.status) → IfOk r (λ reply. HasChecked b c g purpose name given reply.status (text_of reply.text)) →
     IfOk r (λ reply. IsAnswer (query_of input work) a c reply.status (text_of reply.text))
-checked_done input work a b c g name sources (Err status) e read may checked = tt
-checked_done input work a b c g name sources (Ok reply) e read may checked =
-    check_answer input work a b c g name sources reply.status (text_of reply.text) e read (omega (arith, may)) checked
+checked_done input work a b c g purpose name given (Err status) e read may checked = tt
+checked_done input work a b c g purpose name given (Ok reply) e read may checked =
+    check_answer input work a b c g purpose name given reply.status (text_of reply.text) e read (omega (arith, may)) checked
 
-pub check_refused : (input : Input) (work : Work) (a b c : ShelfState) (g : RawGraph) (name : List ℕ) (sources : Option (List ℕ)) (status : Status) → work ≡ check name sources →
-    a.faults ≤ b.faults → IsInputRead input a b g → IsUnchecked b c g name (meant sources) status → IsRefused (query_of input work) a c status
-check_refused input work a b c g name sources status e le read (inl h) =
-    inl ((omega (arith, h.0.0), h.0.1), check_answer input work a b c g name sources status [] e read h.0.0 h.1)
-check_refused (graph_file graph) work a b c g name sources status e le read (inr (inl h)) =
+pub check_refused : (input : Input) (work : Work) (a b c : ShelfState) (g : RawGraph) (purpose : Purpose) (name : List ℕ) (given : Option (List ℕ)) (status : Status) → work ≡ judge purpose name given →
+    a.faults ≤ b.faults → IsInputRead input a b g → IsUnchecked b c g purpose name given status → IsRefused (query_of input work) a c status
+check_refused input work a b c g purpose name given status e le read (inl h) =
+    inl ((omega (arith, h.0.0), h.0.1), check_answer input work a b c g purpose name given status [] e read h.0.0 h.1)
+check_refused (graph_file graph) work a b c g purpose name given status e le read (inr (inl h)) =
     inr (inl (
       which.Witness,
       h.0,
       ((g, read.content), record { name = name; named = ap witness_name e; failed = FailedLoading-then a b c graph name le read.last h.1 }),
     ))
-check_refused (generated n pairs seed) work a b c g name sources status e le read (inr (inl h)) =
+check_refused (generated n pairs seed) work a b c g purpose name given status e le read (inr (inl h)) =
     inr (inl (
       which.Witness,
       h.0,
       ((g, ap (λ (h : RawGraph). Ok h) read.1), record { name = name; named = ap witness_name e; failed = subst (λ s. FailedLoading s c name) read.0 h.1 }),
     ))
-check_refused input work a b c g name sources status e le read (inr (inr memory)) = inr (inr memory)
+check_refused input work a b c g purpose name given status e le read (inr (inr memory)) = inr (inr memory)
 
 -- ---- the statuses
 

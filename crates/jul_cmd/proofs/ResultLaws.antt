@@ -1,19 +1,15 @@
 -- Results that are written whole: they can be written, and a check accepts them.
-use Rattle.std.proofs.Common.{◌≡◌, ◌≢◌, ℕ, ◌<◌, ◌≤◌, List, [], ◌∷◌, get_or, Option, Some, None, Result, Ok, refl, sym, ◌∙◌, subst, ap, arith, inl, inr, MatchOption}
-use Rattle.std.specs.Prelude.{codes}
-use Rattle.std.specs.List.{All}
-use Rattle.std.proofs.lemmas.Bool.{cases_lt, cond-true, cond-false, lt-ltb, le-ltb}
-use Rattle.std.proofs.lemmas.Bool.Decides.{Decides-eqb}
-use Rattle.std.proofs.lemmas.List.Elements.{All-nil, All-cons, All-contains, All-from_get_or}
+use Rattle.std.proofs.Common.{◌≡◌, ◌≢◌, ℕ, ◌<◌, ◌≤◌, List, get_or, Option, Some, None, Ok, refl, sym, ◌∙◌, ap, arith, MatchOption}
+use Rattle.std.proofs.lemmas.List.Elements.{All-contains, All-from_get_or}
 use Rattle.jul_base.specs.declared.graphs.RawGraph.{RawGraph}
-use Rattle.jul_base.specs.declared.limits.TheConstants.{NONE, MAX_BYTES}
+use Rattle.jul_base.specs.declared.limits.TheConstants.{NONE}
 use Rattle.jul_base.specs.declared.results.Cores.{Cores}
 use Rattle.jul_base.specs.declared.results.Distances.{Distances}
 use Rattle.jul_base.specs.declared.results.Cover.{Cover}
 use Rattle.jul_base.specs.Sets.{sets_of}
 use Rattle.jul_base.specs.CoverRounds.{IsCover}
 use Rattle.jul_base.proofs.SetLaws.{length-sets_of}
-use Rattle.jul_base.specs.Graph.{vertices, target, count, IsLawful}
+use Rattle.jul_base.specs.Graph.{vertices, places, target, count, IsLawful}
 use Rattle.jul_base.specs.Symmetry.{IsSymmetric, IsFirstAsymmetricPlace}
 use Rattle.jul_base.proofs.GraphLaws.{place_in_range, target_in_range}
 use Rattle.jul_base.specs.Coreness.{IsCoreness, inner_degree}
@@ -23,24 +19,22 @@ use Rattle.jul_base.proofs.PeelLaws.{has-from_Contains}
 use Rattle.jul_core.specs.Peels.{AreCores}
 use Rattle.jul_core.proofs.StageLaws.{inner_degree-few, taken-is}
 use Rattle.jul_core.proofs.DrawLaws.{rounds-few}
-use Rattle.jul_witness.specs.declared.witnesses.Witness.{Witness}
-use Rattle.jul_witness.specs.declared.witnesses.Witness.TheVariants as results
+use Rattle.jul_witness.specs.declared.witnesses.Columns.{Columns}
+use Rattle.jul_witness.specs.declared.witnesses.Columns.TheVariants as results
 use Rattle.jul_witness.specs.Lawful.{AreLawfulCores, AreLawfulDistances, IsLawfulCover}
-use Rattle.jul_witness.specs.Reading.{reads_witness}
-use Rattle.jul_witness.specs.Texts.{witness_text}
+use Rattle.jul_witness.specs.Texts.{columns_text}
 use Rattle.jul_check.specs.declared.verdicts.Verdict.{Verdict}
 use Rattle.jul_check.specs.declared.verdicts.Verdict.TheVariants.{Yes}
 use Rattle.jul_check.proofs.CoreAcceptLaws.{peeled_accepted}
 use Rattle.jul_check.proofs.DistanceAcceptLaws.{tree_accepted}
 use Rattle.jul_check.proofs.CoverAcceptLaws.{rounds_accepted}
 use Rattle.jul_cmd.specs.declared.statuses.Status.{Status}
-use Rattle.jul_cmd.specs.declared.statuses.Status.TheVariants.{Done, SourceRange}
 use Rattle.jul_query.specs.Queries.{Problem, distances, cores, cover}
 use Rattle.jul_cmd.specs.Suited.{refusal_of_sources, IsSuited}
-use Rattle.jul_cmd.specs.Files.{witness_of_file}
-use Rattle.jul_cmd.specs.Checking.{size_of, judged, judged_file, IsTold}
-use Rattle.jul_cmd.specs.Solving.{IsResult, sources_of, IsAccepted, IsWholeText}
-use Rattle.jul_cmd.proofs.VerdictLaws.{judged-cores, judged-cover, judged-distances}
+use Rattle.jul_cmd.specs.Checking.{size_of, judged}
+use Rattle.jul_cmd.specs.Solving.{IsResult, sources_of, IsWholeText}
+use Rattle.jul_cmd.proofs.SourceLaws.{sources_within}
+use Rattle.jul_cmd.proofs.VerdictLaws.{judged-cores, judged-cover, judged-distances, IsReadBack, accepted_text}
 
 -- ---- a symmetric graph is suited
 
@@ -104,15 +98,7 @@ none_from : (o : Option Status) → ((status : Status) → o ≡ Some status →
 none_from None other = refl
 none_from (Some status) other = absurd (other status refl)
 
--- sources that aren't refused are vertices
-pub sources_within : (n : ℕ) (xs : List ℕ) → refusal_of_sources n xs ≡ None → All (λ s. s < n) xs
-sources_within n [] e = All-nil (λ s. s < n)
-sources_within n (x ∷ xs) e = elim (cases_lt x n) [
-  | inl inside ↦ All-cons (λ s. s < n) x xs inside (sources_within n xs (sym (cond-true _ _ _ (lt-ltb x n inside)) ∙ e))
-  | inr outside ↦ let refused : Some (SourceRange x n) ≡ None = sym (cond-false _ _ _ (le-ltb x n outside)) ∙ e in absurd (cc)
-]
-
-size_is : (g : RawGraph) (problem : Problem) (w : Witness) → IsResult g problem w → size_of w ≡ vertices g
+size_is : (g : RawGraph) (problem : Problem) (columns : Columns) → IsResult g problem columns → size_of columns ≡ vertices g
 size_is g (distances sources) (results.Distances d) tree = tree.distances.size
 size_is g (distances sources) (results.Cores c) none = absurd none
 size_is g (distances sources) (results.Cover c) none = absurd none
@@ -123,7 +109,7 @@ size_is g cores (results.Cores c) (core, level) = core.size
 size_is g cores (results.Distances d) none = absurd none
 size_is g cores (results.Cover c) none = absurd none
 
-judged_yes : (g : RawGraph) → IsLawful g → (problem : Problem) (w : Witness) → IsSuited g problem → IsResult g problem w → judged g (sources_of problem) w ≡ Ok Yes
+judged_yes : (g : RawGraph) → IsLawful g → (problem : Problem) (columns : Columns) → IsSuited g problem → IsResult g problem columns → judged g (sources_of problem) columns ≡ Ok Yes
 judged_yes g lawful (distances sources) (results.Distances d) suited tree =
     let inside : refusal_of_sources (vertices g) sources ≡ None = none_from (refusal_of_sources (vertices g) sources) suited in
     judged-distances g sources (results.Distances d) d refl inside
@@ -139,24 +125,12 @@ judged_yes g lawful cores (results.Cores c) suited (core, level) =
 judged_yes g lawful cores (results.Distances d) suited none = absurd none
 judged_yes g lawful cores (results.Cover c) suited none = absurd none
 
-file_yes : (g : RawGraph) → IsLawful g → (problem : Problem) (w : Witness) → IsSuited g problem → IsResult g problem w → judged_file g (sources_of problem) (Ok w) ≡ Ok Yes
-unfolding judged_file
-file_yes g lawful problem w suited is =
-    cond-true _ _ _ ((Decides-eqb (size_of w) (vertices g)).1 (size_is g problem w is)) ∙ judged_yes g lawful problem w suited is
-
-reads_text : (w : Witness) → reads_witness (witness_text w) MAX_BYTES ≡ Ok w → witness_of_file (witness_text w) ≡ Ok w
-unfolding witness_of_file
-reads_text w e = e
-
-accepted_text : (g : RawGraph) → IsLawful g → (problem : Problem) (w : Witness) → IsSuited g problem → IsResult g problem w → reads_witness (witness_text w) MAX_BYTES ≡ Ok w →
-    IsAccepted g problem (witness_text w)
-accepted_text g lawful problem w suited is read =
-    let said : judged_file g (sources_of problem) (witness_of_file (witness_text w)) ≡ Ok Yes =
-    ap (judged_file g (sources_of problem)) (reads_text w read) ∙ file_yes g lawful problem w suited is in
-    let P : Result Verdict Status → Type 0 = λ r. IsTold r Done (codes "yes\n") in
-    subst P (sym said) (refl, refl)
-
 -- the text of a result is one that a check accepts
-pub whole_text : (g : RawGraph) → IsLawful g → (problem : Problem) (w : Witness) → IsSuited g problem → IsResult g problem w → reads_witness (witness_text w) MAX_BYTES ≡ Ok w →
-    IsWholeText g problem (witness_text w)
-whole_text g lawful problem w suited is read = record { result = w; is_result = is; is_text = refl; accepted = accepted_text g lawful problem w suited is read }
+pub whole_text : (g : RawGraph) → IsLawful g → (problem : Problem) (columns : Columns) (m : ℕ) (sources : List ℕ) → IsSuited g problem → IsResult g problem columns → m ≡ places g → sources ≡ sources_of problem →
+    IsReadBack m sources columns → IsWholeText g problem (columns_text m sources columns)
+whole_text g lawful problem columns m sources suited is em same read = record {
+  columns = columns;
+  is_result = is;
+  is_text = ap (λ k. columns_text k sources columns) em ∙ ap (λ s. columns_text (places g) s columns) same;
+  accepted = accepted_text g m sources columns em (size_is g problem columns is) (ap (λ s. judged g s columns) same ∙ judged_yes g lawful problem columns suited is) read;
+}

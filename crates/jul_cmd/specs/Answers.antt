@@ -5,7 +5,7 @@ use Rattle.jul_base.specs.Shelves.{ShelfState}
 use Rattle.jul_adj.specs.declared.faults.Fault.{Fault}
 use Rattle.jul_cmd.specs.declared.statuses.Status.{Status}
 use Rattle.jul_cmd.specs.declared.statuses.Status.TheVariants.{GraphFault}
-use Rattle.jul_query.specs.Queries.{Input, graph_file, generated, Work, solve, check, meant, Asked}
+use Rattle.jul_query.specs.Queries.{Input, graph_file, generated, Work, solve, judge, Asked}
 use Rattle.jul_adj.specs.Generated.{generated as generated_graph}
 use Rattle.jul_cmd.specs.Files.{graph_of_file, Says}
 use Rattle.jul_cmd.specs.Solving.{IsSolved}
@@ -19,7 +19,7 @@ InputSays shelf (generated n pairs seed) graph = graph ≡ Ok (generated_graph n
 -- what is said of a graph
 abbrev pub WorkAnswer : ShelfState → RawGraph → Work → Status → List ℕ → Type 0
 WorkAnswer shelf g (solve problem form) status text = IsSolved g problem form status text
-WorkAnswer shelf g (check witness sources) status text = IsChecked shelf g witness (meant sources) status text
+WorkAnswer shelf g (judge purpose witness sources) status text = IsChecked shelf g purpose witness sources status text
 
 -- what is said of what the input says: a fault comes before all else
 abbrev pub GraphAnswer : ShelfState → Work → Result RawGraph Fault → Status → List ℕ → Type 0

@@ -1,13 +1,16 @@
 -- What the parts of a run leave to the next one.
-use Rattle.std.specs.Prelude.{◌≡◌, ◌⊎◌, ℕ, ◌<◌, ◌≤◌, List, [], Result, Ok, Err, Bool, IsTrue}
+use Rattle.std.specs.Prelude.{◌≡◌, ◌⊎◌, ℕ, ◌<◌, ◌≤◌, List, [], Option, Result, Ok, Err, Bool, IsTrue}
 use Rattle.jul_base.specs.declared.graphs.RawGraph.{RawGraph}
+use Rattle.jul_base.specs.declared.limits.TheConstants.{MAX_M}
 use Rattle.jul_base.specs.Shelves.{ShelfState}
 use Rattle.jul_base.specs.Loading.{FailedLoading}
+use Rattle.jul_base.specs.Sources.{AreNamedSources}
 use Rattle.jul_base.specs.Symmetry.{IsSymmetric}
 use Rattle.jul_witness.specs.declared.faults.WitnessFault.{WitnessFault as FaultOfWitness}
 use Rattle.jul_witness.specs.declared.witnesses.Witness.{Witness as AnyWitness}
 use Rattle.jul_witness.specs.Lawful.{IsLawful}
-use Rattle.jul_witness.specs.Texts.{bare_text, witness_text}
+use Rattle.jul_witness.specs.declared.witnesses.Columns.{Columns}
+use Rattle.jul_witness.specs.Texts.{bare_text, columns_text}
 use Rattle.jul_check.specs.declared.verdicts.Verdict.{Verdict}
 use Rattle.jul_cmd.specs.declared.statuses.Status.{Status}
 use Rattle.jul_cmd.specs.declared.statuses.Status.TheVariants.{GraphFault, WitnessFault, ReadFault, Memory}
@@ -18,7 +21,7 @@ use Rattle.jul_cmd.specs.declared.replies.Text.{Text}
 use Rattle.jul_cmd.specs.declared.replies.Text.TheVariants.{Bare, Whole, Line}
 use Rattle.jul_cmd.specs.Statuses.{stage_of}
 use Rattle.jul_query.specs.declared.queries.Problem.{Problem as GivenProblem}
-use Rattle.jul_query.specs.Queries.{Input, graph_file, generated, Problem, Form, Asked}
+use Rattle.jul_query.specs.Queries.{Input, graph_file, generated, Problem, Form, Purpose, Asked}
 use Rattle.jul_query.specs.Ranges.{IsProblemInRange}
 use Rattle.jul_adj.specs.Generated.{generated as generated_graph}
 use Rattle.jul_cmd.specs.Files.{graph_of_file, witness_of_file, IsRead}
@@ -31,15 +34,15 @@ use Rattle.jul_cmd.specs.Outcomes.{IsAnswer, FailedReading}
 
 -- a refusal that the files cause
 abbrev pub IsRefusal : Status → Type 0
-IsRefusal status = (1 ≤ stage_of status) × (stage_of status < 5)
+IsRefusal status = (1 ≤ stage_of status) × (stage_of status < 7)
 
 -- a refusal that comes once the witness was read
 abbrev pub IsWitnessRefusal : Status → Type 0
-IsWitnessRefusal status = (2 ≤ stage_of status) × (stage_of status < 5)
+IsWitnessRefusal status = (2 ≤ stage_of status) × (stage_of status < 7)
 
 -- an answer that has a text
 abbrev pub IsGiven : Status → Type 0
-IsGiven status = stage_of status ≡ 5
+IsGiven status = stage_of status ≡ 7
 
 -- ---- files
 
@@ -75,7 +78,7 @@ IsInputUnread (generated n pairs seed) shelf shelf' status = status ≡ Memory
 
 abbrev pub text_of : Text → List ℕ
 text_of (Bare column) = bare_text column
-text_of (Whole result) = witness_text result
+text_of (Whole places sources columns) = columns_text places sources columns
 text_of (Line line) = line
 
 -- a problem can be put to a graph: its numbers are in range, and where the graph is said to be symmetric, it is
@@ -91,28 +94,37 @@ Solves g problem form reply = IsDone g problem form reply.status (text_of reply.
 abbrev pub IsUnsolved : RawGraph → Problem → Status → Type 0
 IsUnsolved g problem status = IsUnsuited g problem status ⊎ (status ≡ Memory)
 
--- what was said of a witness or of what its file says, unless memory ran out
+-- what was said of columns, unless memory ran out
 abbrev pub Judges : Result Verdict Status → Result Verdict Status → Type 0
 Judges (Ok verdict) said = said ≡ Ok verdict
 Judges (Err status) said = (IsWitnessRefusal status × (said ≡ Err status)) ⊎ (status ≡ Memory)
 
+-- what a witness file says is refused, or memory ran out
+abbrev pub IsWitnessRefused : RawGraph → Purpose → Option (List ℕ) → Result AnyWitness FaultOfWitness → Status → Type 0
+IsWitnessRefused g purpose given said status = (IsWitnessRefusal status × IsJudged g purpose given said status []) ⊎ (status ≡ Memory)
+
 -- the witness file was read and judged
-pub record HasChecked (shelf shelf' : ShelfState) (g : RawGraph) (name : List ℕ) (sources : List ℕ) (status : Status) (text : List ℕ) : Type 0 where
+pub record HasChecked (shelf shelf' : ShelfState) (g : RawGraph) (purpose : Purpose) (name : List ℕ) (given : Option (List ℕ)) (status : Status) (text : List ℕ) : Type 0 where
   pub witness : Result AnyWitness FaultOfWitness
   pub read : IsRead witness_of_file shelf shelf' name witness
-  pub judged : IsJudged g sources witness status text
+  pub judged : IsJudged g purpose given witness status text
 
 -- there is no verdict: the witness is refused, or its file could not be loaded, or memory ran out
-abbrev pub IsUnchecked : ShelfState → ShelfState → RawGraph → List ℕ → List ℕ → Status → Type 0
-IsUnchecked shelf shelf' g name sources status =
-    (IsWitnessRefusal status × HasChecked shelf shelf' g name sources status []) ⊎ IsUnloaded Witness shelf shelf' name status
+abbrev pub IsUnchecked : ShelfState → ShelfState → RawGraph → Purpose → List ℕ → Option (List ℕ) → Status → Type 0
+IsUnchecked shelf shelf' g purpose name given status =
+    (IsWitnessRefusal status × HasChecked shelf shelf' g purpose name given status []) ⊎ IsUnloaded Witness shelf shelf' name status
 
 -- ---- the whole
 
--- the columns of a result can be written
+-- the columns of a result can be written, with the places and the sources
+pub record AreWritable (places : ℕ) (sources : List ℕ) (columns : Columns) : Type 0 where
+  pub few : places ≤ MAX_M
+  pub sources_named : AreNamedSources sources
+  pub lawful : IsLawful columns
+
 abbrev pub IsWritable : Text → Type 0
 IsWritable (Bare column) = Unit {0}
-IsWritable (Whole result) = IsLawful result
+IsWritable (Whole places sources columns) = AreWritable places sources columns
 IsWritable (Line line) = Unit {0}
 
 -- a refusal before anything is written

@@ -1,5 +1,5 @@
 -- What is said of a graph where a problem is to be solved: a line for each problem, and a line for each form.
-use Rattle.std.specs.Prelude.{◌≡◌, ◌⊎◌, ℕ, List, [], ◌∷◌, codes}
+use Rattle.std.specs.Prelude.{◌≡◌, ◌⊎◌, ℕ, List, [], None}
 use Rattle.jul_base.specs.declared.graphs.RawGraph.{RawGraph}
 use Rattle.jul_base.specs.declared.results.Cover.{Cover}
 use Rattle.jul_base.specs.Numbers.{IsColumn}
@@ -11,16 +11,15 @@ use Rattle.jul_base.specs.Distances.{AreDistances}
 use Rattle.jul_base.specs.Trees.{AreTree}
 use Rattle.jul_base.specs.Coreness.{IsCoreness}
 use Rattle.jul_base.specs.Levels.{IsLevel}
-use Rattle.jul_witness.specs.declared.witnesses.Witness.{Witness}
-use Rattle.jul_witness.specs.declared.witnesses.Witness.TheVariants as results
-use Rattle.jul_witness.specs.Texts.{bare_text, witness_text}
+use Rattle.jul_witness.specs.declared.witnesses.Columns.{Columns}
+use Rattle.jul_witness.specs.declared.witnesses.Columns.TheVariants as results
+use Rattle.jul_witness.specs.Texts.{bare_text, columns_text}
 use Rattle.jul_witness.specs.Summaries.{distances_summary, cores_summary, cover_summary}
 use Rattle.jul_cmd.specs.declared.statuses.Status.{Status}
 use Rattle.jul_cmd.specs.declared.statuses.Status.TheVariants.{Done}
-use Rattle.jul_query.specs.Queries.{Problem, distances, cores, cover, Form, whole, bare, summary}
+use Rattle.jul_query.specs.Queries.{Problem, distances, cores, cover, Form, whole, bare, summary, meant}
 use Rattle.jul_cmd.specs.Suited.{IsUnsuited, IsSuited}
-use Rattle.jul_cmd.specs.Files.{witness_of_file}
-use Rattle.jul_cmd.specs.Checking.{judged_file, IsTold}
+use Rattle.jul_cmd.specs.Checking.{IsAccepted}
 
 -- the columns are those of the cover's rounds, and few sets are chosen: at most 4 * (f + 1) times as many as any list has that
 -- holds every element, where f is the floor of the base-2 logarithm of the greatest size
@@ -35,28 +34,24 @@ AreValues g cores column = IsColumn (vertices g) (IsCoreness g) column
 AreValues g cover column = (c : Cover) × IsFoundCover g c × (column ≡ c.by)
 
 -- the columns have for each vertex what the problem asks, and the witness that bears it out
-abbrev pub IsResult : RawGraph → Problem → Witness → Type 0
+abbrev pub IsResult : RawGraph → Problem → Columns → Type 0
 IsResult g (distances sources) (results.Distances d) = AreTree g sources d.dist d.hops d.parent
 IsResult g cores (results.Cores c) = IsColumn (vertices g) (IsCoreness g) c.core × IsColumn (vertices g) (IsLevel g) c.level
 IsResult g cover (results.Cover c) = IsFoundCover g c
 IsResult g problem result = ⊥
 
--- the sources that are handed to a check of the result
+-- the sources of a problem: vertex 0 alone where it has none
 abbrev pub sources_of : Problem → List ℕ
 sources_of (distances sources) = sources
-sources_of cores = 0 ∷ []
-sources_of cover = 0 ∷ []
-
--- a check of this text on the same graph, with the same sources, says yes
-abbrev pub IsAccepted : RawGraph → Problem → List ℕ → Type 0
-IsAccepted g problem text = IsTold (judged_file g (sources_of problem) (witness_of_file text)) Done (codes "yes\n")
+sources_of cores = meant None
+sources_of cover = meant None
 
 -- the whole text of a result, which a check accepts
 pub record IsWholeText (g : RawGraph) (problem : Problem) (text : List ℕ) : Type 0 where
-  pub result : Witness
-  pub is_result : IsResult g problem result
-  pub is_text : text ≡ witness_text result
-  pub accepted : IsAccepted g problem text
+  pub columns : Columns
+  pub is_result : IsResult g problem columns
+  pub is_text : text ≡ columns_text (places g) (sources_of problem) columns
+  pub accepted : IsAccepted g text
 
 -- the line sums up what the problem asks, behind the name of the task
 abbrev pub IsSummary : RawGraph → Problem → List ℕ → List ℕ → Type 0

@@ -2,7 +2,7 @@
 ghost use Rattle.std.specs.Prelude.{IfOk, IfErr, OnOk, IsTrue};
 ghost use Rattle.jul_base.specs.Symmetry.{IsSymmetric};
 ghost use Rattle.jul_witness.specs.Lawful.{AreLawfulCores};
-ghost use Rattle.jul_witness.specs.declared.witnesses.Witness.TheVariants as results;
+ghost use Rattle.jul_witness.specs.declared.witnesses.Columns.TheVariants as results;
 ghost use Rattle.jul_query.specs.Queries.{cores};
 ghost use Rattle.jul_cmd.specs.Suited.{IsSuited};
 ghost use Rattle.jul_cmd.specs.Solving.{AreValues, IsResult};

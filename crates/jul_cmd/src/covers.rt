@@ -1,7 +1,7 @@
 //! The task `cover`: an approximate set cover, in rounds.
 ghost use Rattle.std.specs.Prelude.{IfOk, IfErr, OnOk};
 ghost use Rattle.jul_witness.specs.Lawful.{IsLawfulCover};
-ghost use Rattle.jul_witness.specs.declared.witnesses.Witness.TheVariants as results;
+ghost use Rattle.jul_witness.specs.declared.witnesses.Columns.TheVariants as results;
 ghost use Rattle.jul_query.specs.Queries.{cover};
 ghost use Rattle.jul_cmd.specs.Suited.{IsSuited};
 ghost use Rattle.jul_cmd.specs.Solving.{IsResult};

@@ -1,8 +1,9 @@
 //! Objects that fail at each of their calls in turn, files that are cut, workers that are held, and long numbers.
 use crate::trials::{
-    FAR, LOWERED_TWICE, LOWERED_TWICE_TREE, ONE_WAY, OVERLAPPING, OVERLAPPING_COVER, READ_MOST,
-    TRIANGLE, TRIANGLE_CORES, TWO_SETS, TWO_SETS_COVER, TWO_TRIANGLES, TWO_TRIANGLES_CORES,
-    TWO_WAYS, TWO_WAYS_TREE, Trial, expect_answer, outcome_of, outcome_with, trial_of,
+    FAR, LOWERED_FROM_TWO, LOWERED_TWICE, LOWERED_TWICE_TREE, ONE_WAY, OVERLAPPING,
+    OVERLAPPING_COVER, READ_MOST, TRIANGLE, TRIANGLE_CORES, TWO_SETS, TWO_SETS_COVER,
+    TWO_TRIANGLES, TWO_TRIANGLES_CORES, TWO_WAYS, TWO_WAYS_TREE, Trial, expect_answer, outcome_of,
+    outcome_with, trial_of,
 };
 use crate::{Status, Which};
 use jul_base::Gate;
@@ -24,7 +25,7 @@ struct Row<'a> {
     calls: u64,
 }
 
-const ROWS: [Row<'static>; 10] = [
+const ROWS: [Row<'static>; 11] = [
     Row {
         words: &["kcore", "g", "--workers=1"],
         graph: TRIANGLE,
@@ -93,7 +94,14 @@ const ROWS: [Row<'static>; 10] = [
         graph: TRIANGLE,
         witness: TRIANGLE_CORES,
         text: "yes\n",
-        calls: 18,
+        calls: 19,
+    },
+    Row {
+        words: &["upgrade", "g", "w"],
+        graph: TRIANGLE,
+        witness: TRIANGLE_CORES,
+        text: TRIANGLE_CORES,
+        calls: 19,
     },
 ];
 
@@ -210,7 +218,7 @@ fn expect_failing_objects<'w, R: Threads + Sync + Abort>(
     };
     for (trial, code, out, err) in [
         (missing, 5, "", "read fault: graph\n"),
-        (full, 6, "Cores\n4\n2 ", "write fault\n"),
+        (full, 6, "Cores2\n4 8", "write fault\n"),
         (unwritten, 6, "Core", "write fault\n"),
         (silent, 6, "Core", ""),
         (one_way, 4, "", "asymmetric at place 0\n"),
@@ -325,6 +333,11 @@ fn each_cut_of_a_file_is_told(rt: HostRuntime) -> Result<(), Fail> {
             ["check", "g", "w"].as_slice(),
             Which::Witness,
             TRIANGLE_CORES,
+        ),
+        (
+            ["upgrade", "g", "w"].as_slice(),
+            Which::Witness,
+            LOWERED_FROM_TWO,
         ),
     ] {
         expect_cuts(&rt, rt.alloc(), words, file, text)?;

@@ -3,7 +3,7 @@ ghost use Rattle.std.specs.Prelude.{◌+◌, ◌≤◌, length, Ok, IfOk, IfErr,
 ghost use Rattle.jul_base.specs.declared.limits.TheConstants.{MAX_BYTES};
 ghost use Rattle.jul_base.specs.Loading.{IsLoaded};
 ghost use Rattle.jul_base.specs.Symmetry.{IsSymmetric};
-ghost use Rattle.jul_witness.specs.Lawful.{IsLawful};
+ghost use Rattle.jul_witness.specs.Lawful.{IsLawfulWitness};
 ghost use Rattle.jul_query.specs.Asking.{input_of};
 ghost use Rattle.jul_query.specs.Ranges.{IsInputInRange};
 ghost use Rattle.jul_cmd.specs.declared.statuses.Which.TheVariants as which;
@@ -109,7 +109,7 @@ pub fn load_input<R: Threads + Sync, G: Gate, F: Shelf>(
 pub fn load_witness<F: Shelf>(alloc: Global, name: &str, files: &mut F) -> Result<Witness, Status>
     ensures witness { IfOk result (λ witness.
         IsRead witness_of_file (F.state files.old) (F.state files.new) name.now (Ok witness)) }
-    ensures lawful { IfOk result IsLawful }
+    ensures lawful { IfOk result IsLawfulWitness }
     ensures refused { IfErr result (IsWitnessUnread (F.state files.old) (F.state files.new) name.now) }
 {
     let bytes = load_text(alloc, name, files)?;

@@ -1,16 +1,16 @@
 //! The line that a status puts on standard error.
 ghost use Rattle.std.specs.Prelude.{◌≡◌, ◌≤◌, length};
-ghost use Rattle.jul_cmd.specs.Statuses.{fault_text, message_of};
+ghost use Rattle.jul_cmd.specs.Statuses.{fault_text, differing_text, message_of};
 ghost use Rattle.jul_cmd.specs.Outcomes.{WroteOrFailed};
-ghost use Rattle.jul_cmd.specs.declared.statuses.Status.TheVariants.{Asymmetric, SourceRange, SizeDiffers};
+ghost use Rattle.jul_cmd.specs.declared.statuses.Status.TheVariants.{SourcesDiffer, Asymmetric, SourceRange};
 
 use crate::lines::Line;
 use crate::statuses::{Status, Which};
 use jul_base::{Sink, write_whole};
 
 /// What the program is told to be called by.
-const USAGE: &[u8; 139] =
-    b"usage: julienne TASK GRAPH [WITNESS] [--source S] [--delta D] [--open B] [--workers W] [--chunk C] [--bare] [--n N] [--pairs P] [--seed X]\n";
+const USAGE: &[u8; 142] =
+    b"usage: julienne TASK GRAPH [WITNESS] [--source LIST] [--delta D] [--open B] [--workers W] [--chunk C] [--bare] [--n N] [--pairs P] [--seed X]\n";
 
 fn fault_line(file: &[u8], kind: &[u8], token: u64, at: u64) -> Line
     requires file { length file.now ≤ 15 }
@@ -24,6 +24,31 @@ fn fault_line(file: &[u8], kind: &[u8], token: u64, at: u64) -> Line
     line.put_number(token);
     line.put(b", byte ");
     line.put_number(at);
+    line.put(b"\n");
+    line
+}
+
+fn differing_line(what: &[u8], witness: u32, graph: u32) -> Line
+    requires { length what.now ≤ 15 }
+    ensures { result ≡ differing_text what.now witness graph }
+{
+    let mut line = Line::of(b"witness ");
+    line.put(what);
+    line.put(b" ");
+    line.put_number(u64::from(witness));
+    line.put(b", graph ");
+    line.put(what);
+    line.put(b" ");
+    line.put_number(u64::from(graph));
+    line.put(b"\n");
+    line
+}
+
+fn sources_line(at: u32) -> Line
+    ensures { result ≡ message_of (SourcesDiffer at) }
+{
+    let mut line = Line::of(b"sources differ at entry ");
+    line.put_number(u64::from(at));
     line.put(b"\n");
     line
 }
@@ -49,18 +74,6 @@ fn source_range_line(source: u32, n: u32) -> Line
     line
 }
 
-fn sizes_line(witness: u32, graph: u32) -> Line
-    ensures { result ≡ message_of (SizeDiffers witness graph) }
-{
-    let mut line = Line::new();
-    line.put(b"witness size ");
-    line.put_number(u64::from(witness));
-    line.put(b", graph size ");
-    line.put_number(u64::from(graph));
-    line.put(b"\n");
-    line
-}
-
 fn message(status: &Status) -> Line
     ensures { result ≡ message_of status.now }
 {
@@ -79,9 +92,11 @@ fn message(status: &Status) -> Line
             fault.token,
             fault.at,
         ),
+        Status::SizeDiffers { witness, graph } => differing_line(b"size", witness, graph),
+        Status::PlacesDiffer { witness, graph } => differing_line(b"places", witness, graph),
+        Status::SourcesDiffer { at } => sources_line(at),
         Status::Asymmetric { place } => asymmetric_line(place),
         Status::SourceRange { source, n } => source_range_line(source, n),
-        Status::SizeDiffers { witness, graph } => sizes_line(witness, graph),
         Status::ReadFault { file: Which::Graph } => Line::of(b"read fault: graph\n"),
         Status::ReadFault {
             file: Which::Witness,

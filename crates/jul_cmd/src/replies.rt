@@ -4,16 +4,23 @@ ghost use Rattle.jul_base.specs.Sinks.{Appended, FailedWriting};
 
 use crate::lines::Line;
 use crate::statuses::Status;
-use jul_base::{Column, Failed, Sink, write_whole};
-use jul_witness::{Witness, write_bare};
+use jul_base::{Column, Failed, Ids, Sink, write_whole};
+use jul_witness::{Columns, write_bare};
 
 /// The text of an answer.
 #[derive(Drop)]
 pub enum Text {
     /// A column, as a bare text.
     Bare(Column),
-    /// All columns of a result.
-    Whole(Witness),
+    /// All columns of a result, with the number of places of the graph and, for distances, the sources.
+    Whole {
+        /// The number of places of the graph.
+        places: u32,
+        /// The sources.
+        sources: Ids,
+        /// The columns.
+        columns: Columns,
+    },
     /// One line.
     Line(Line),
 }
@@ -39,7 +46,11 @@ impl Text {
     {
         match self {
             Text::Bare(column) => write_bare(out, column.as_slice()),
-            Text::Whole(result) => result.write(out),
+            Text::Whole {
+                places,
+                sources,
+                columns,
+            } => columns.write(out, *places, sources.as_slice()),
             Text::Line(line) => write_whole(out, line.as_slice()),
         }
     }

@@ -8,7 +8,7 @@ ghost use Rattle.jul_query.specs.Ranges.{IsInRange};
 ghost use Rattle.jul_cmd.specs.Outcomes.{HasCause, WroteOrFailed, IsUntroubled, IsComplete, IsAnswer};
 ghost use Rattle.jul_cmd.specs.Parts.{IsGiven, IsRefused, IsWritable, text_of};
 
-use crate::checking::check;
+use crate::checking::judge;
 use crate::loading::load_input;
 use crate::messages::write_message;
 use crate::replies::Reply;
@@ -35,11 +35,16 @@ fn find_reply<R: Threads + Sync, G: Gate, F: Shelf>(
     ensures refused { IfErr result
         (IsRefused (asked_by query.entry) (F.state files.old) (F.state files.new)) }
 {
-    let loaded = load_input(resources, query.input, files)?;
+    let Query { input, work, .. } = query;
+    let loaded = load_input(resources, input, files)?;
     let rows = &loaded.rows;
-    match query.work {
+    match work {
         Work::Solve(problem, form) => solve(resources, rows, loaded.is_symmetric, problem, form),
-        Work::Check { witness, source } => check(resources.alloc, rows, witness, source, files),
+        Work::Judge {
+            purpose,
+            witness,
+            sources,
+        } => judge(resources.alloc, rows, purpose, witness, sources, files),
     }
 }
 
@@ -76,13 +81,15 @@ fn answer<R: Threads + Sync, G: Gate, F: Shelf, O: Sink>(
 /// Does all that the program does: reads the files that the words name, and writes the answer to `out`.
 /// `words` are those after the program's name.
 ///
-/// `wbfs` and `delta` write the least distances from the source, with hops and parents; `kcore` the coreness and the level of
-/// each vertex of a symmetric graph; `cover` the rounds of an approximate set cover; or their first column alone. `check`
-/// writes whether the witness is borne out by the graph, or the least vertex that fails and its first reason. `demo` solves
-/// a problem on a graph that it makes, and writes one line.
+/// `wbfs` and `delta` write the least distances from the nearest source, with hops and parents; `kcore` the coreness and the
+/// level of each vertex of a symmetric graph; `cover` the rounds of an approximate set cover; or their first column alone.
+/// `check` writes whether the witness is borne out by the graph, or the least vertex that fails and its first reason, and
+/// `upgrade` in place of a yes the witness itself, in the text that the other tasks write. `demo` solves a problem on a
+/// graph that it makes, and writes one line.
 ///
 /// A refusal is the first that has its cause: the words, the graph file from front to back, the witness file from
-/// front to back, its size, the source or the symmetry. Its line goes to `err` at the end, and a failing `err` changes no status.
+/// front to back, its size, its number of places, the sources that it names, the sources or the symmetry. Its line goes to
+/// `err` at the end, and a failing `err` changes no status.
 /// All memory is taken before the first byte goes to `out`. Waits for nobody.
 #[tactic(auto, using(crate::proofs::AnswerLaws::cause_is_complete))]
 pub fn run<R: Threads + Sync, F: Shelf, O: Sink, E: Sink, G: Gate>(

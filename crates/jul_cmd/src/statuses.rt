@@ -35,25 +35,37 @@ pub enum Status {
     GraphFault(Fault),
     /// The witness file has a fault, and this is its first one.
     WitnessFault(WitnessFault),
-    /// The graph is not symmetric.
-    Asymmetric {
-        /// The least place from some `u` to some `w` for which the row of `u` has more entries `w` than the row of
-        /// `w` has entries `u`.
-        place: u32,
-    },
-    /// The source is not below the number of vertices.
-    SourceRange {
-        /// The source that the words name.
-        source: u32,
-        /// The number of vertices of the graph.
-        n: u32,
-    },
     /// The witness has another number of vertices than the graph.
     SizeDiffers {
         /// The number of vertices of the witness.
         witness: u32,
         /// The number of vertices of the graph.
         graph: u32,
+    },
+    /// The witness names another number of places than the graph has.
+    PlacesDiffer {
+        /// The number of places that the witness names.
+        witness: u32,
+        /// The number of places of the graph.
+        graph: u32,
+    },
+    /// The witness names other sources than the words.
+    SourcesDiffer {
+        /// The least index at which the two lists don't have the same entry, or only one has an entry.
+        at: u32,
+    },
+    /// The graph is not symmetric.
+    Asymmetric {
+        /// The least place from some `u` to some `w` for which the row of `u` has more entries `w` than the row of
+        /// `w` has entries `u`.
+        place: u32,
+    },
+    /// A source is not below the number of vertices.
+    SourceRange {
+        /// The first such source.
+        source: u32,
+        /// The number of vertices of the graph.
+        n: u32,
     },
     /// A file could not be read to its end, or is missing.
     ReadFault {
@@ -78,8 +90,11 @@ impl Status {
             Status::No { .. } => 1,
             Status::Usage => 2,
             Status::GraphFault(_) | Status::WitnessFault(_) => 3,
-            Status::Asymmetric { .. } | Status::SourceRange { .. } | Status::SizeDiffers { .. } =>
-                4,
+            Status::SizeDiffers { .. }
+            | Status::PlacesDiffer { .. }
+            | Status::SourcesDiffer { .. }
+            | Status::Asymmetric { .. }
+            | Status::SourceRange { .. } => 4,
             Status::ReadFault { .. } => 5,
             Status::WriteFault => 6,
             Status::Memory => 7,

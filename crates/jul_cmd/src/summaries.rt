@@ -1,7 +1,8 @@
 //! The line that sums a result up.
-ghost use Rattle.std.specs.Prelude.{◌≡◌, ◌+◌, ◌≤◌, ◌++◌, [], ◌∷◌, length, IfOk, IfErr, OnOk, IsTrue};
+ghost use Rattle.std.specs.Prelude.{◌≡◌, ◌+◌, ◌≤◌, ◌++◌, length, IfOk, IfErr, OnOk, IsTrue};
 ghost use Rattle.jul_base.specs.Symmetry.{IsSymmetric};
 ghost use Rattle.jul_base.specs.Graph.{vertices, places};
+ghost use Rattle.jul_base.specs.Sources.{AreNamedSources};
 ghost use Rattle.jul_witness.specs.Summaries.{named_number, summary_line};
 ghost use Rattle.jul_query.specs.Words.{task_name};
 ghost use Rattle.jul_query.specs.Queries.{distances, cores, cover, summary};
@@ -53,21 +54,22 @@ fn line_of(task: Task, rows: &Rows, first: &[u8], a: u64, second: &[u8], b: u64)
     line
 }
 
-// How many vertices are reached from a source, and the greatest distance of these.
+// How many vertices are reached from the sources, and the greatest distance of these.
 fn sum_distances<R: Threads + Sync, G: Gate>(
     resources: &Resources<'_, '_, R, G>,
     rows: &Rows,
     task: Task,
-    source: u32,
+    sources: &[u32],
     delta: u32,
 ) -> Result<Line, Status>
-    requires { 1 ≤ delta }
+    requires sources { AreNamedSources sources.now }
+    requires delta { 1 ≤ delta }
 
-    ensures suited { OnOk result (IsSuited rows.now (distances (source ∷ []))) }
-    ensures summed { IfOk result (IsSummary rows.now (distances (source ∷ [])) (task_name task)) }
-    ensures refused { IfErr result (IsUnsolved rows.now (distances (source ∷ []))) }
+    ensures suited { OnOk result (IsSuited rows.now (distances sources.now)) }
+    ensures summed { IfOk result (IsSummary rows.now (distances sources.now) (task_name task)) }
+    ensures refused { IfErr result (IsUnsolved rows.now (distances sources.now)) }
 {
-    let dist = find_distances(resources, rows, source, delta)?;
+    let dist = find_distances(resources, rows, sources, delta)?;
     let reached = number_count(&dist);
     let most = greatest_number(&dist);
     Ok(line_of(task, rows, b"reached", reached, b"max", most))
@@ -113,18 +115,18 @@ fn sum_up<R: Threads + Sync, G: Gate>(
     resources: &Resources<'_, '_, R, G>,
     rows: &Rows,
     is_symmetric: bool,
-    problem: Problem,
+    problem: &Problem,
     task: Task,
 ) -> Result<Line, Status>
-    requires { IsPosed rows.now is_symmetric problem }
+    requires { IsPosed rows.now is_symmetric problem.now }
 
-    ensures suited { OnOk result (IsSuited rows.now (problem_of problem)) }
-    ensures summed { IfOk result (IsSummary rows.now (problem_of problem) (task_name task)) }
-    ensures refused { IfErr result (IsUnsolved rows.now (problem_of problem)) }
+    ensures suited { OnOk result (IsSuited rows.now (problem_of problem.now)) }
+    ensures summed { IfOk result (IsSummary rows.now (problem_of problem.now) (task_name task)) }
+    ensures refused { IfErr result (IsUnsolved rows.now (problem_of problem.now)) }
 {
     match problem {
-        Problem::Distances { source, delta } => {
-            sum_distances(resources, rows, task, source, delta)
+        Problem::Distances { sources, delta } => {
+            sum_distances(resources, rows, task, sources.as_slice(), *delta)
         }
         Problem::Cores => sum_cores(resources, rows, is_symmetric, task),
         Problem::Cover => sum_cover(resources, rows, task),
@@ -136,14 +138,14 @@ pub fn solve_summary<R: Threads + Sync, G: Gate>(
     resources: &Resources<'_, '_, R, G>,
     rows: &Rows,
     is_symmetric: bool,
-    problem: Problem,
+    problem: &Problem,
     task: Task,
 ) -> Result<Reply, Status>
-    requires { IsPosed rows.now is_symmetric problem }
+    requires { IsPosed rows.now is_symmetric problem.now }
 
-    ensures done { IfOk result (Solves rows.now (problem_of problem) (summary (task_name task))) }
+    ensures done { IfOk result (Solves rows.now (problem_of problem.now) (summary (task_name task))) }
     ensures writable { IfOk result (λ reply. IsWritable reply.text) }
-    ensures refused { IfErr result (IsUnsolved rows.now (problem_of problem)) }
+    ensures refused { IfErr result (IsUnsolved rows.now (problem_of problem.now)) }
 {
     let line = sum_up(resources, rows, is_symmetric, problem, task)?;
     Ok(Reply {

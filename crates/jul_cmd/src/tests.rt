@@ -1,10 +1,10 @@
 //! Whole runs on small graphs. Distances, verdicts and the places of faults were worked out by hand.
 use crate::Status;
 use crate::trials::{
-    APART, FAR, LOOP, LOWERED_TWICE, LOWERED_TWICE_TREE, NO_WEIGHTS, NOTHING, OVERLAPPING,
-    OVERLAPPING_COVER, TRIANGLE, TRIANGLE_CORES, TWO_SETS, TWO_SETS_COVER, TWO_TRIANGLES,
-    TWO_TRIANGLES_CORES, TWO_WAYS, TWO_WAYS_TREE, Trial, expect_answer, outcome_of, outcome_with,
-    trial_of,
+    APART, FAR, LOOP, LOWERED_FROM_TWO, LOWERED_TWICE, LOWERED_TWICE_TREE, NO_WEIGHTS, NOTHING,
+    OVERLAPPING, OVERLAPPING_COVER, TRIANGLE, TRIANGLE_CORES, TWO_SETS, TWO_SETS_COVER,
+    TWO_TRIANGLES, TWO_TRIANGLES_CORES, TWO_WAYS, TWO_WAYS_TREE, Trial, expect_answer, outcome_of,
+    outcome_with, trial_of,
 };
 use jul_base::Gate;
 use std::alloc::{AllocError, Global};
@@ -106,6 +106,7 @@ fn each_refusal_has_its_line(rt: HostRuntime) -> Result<(), Fail> {
     for (source, file, code, line) in [
         ("3", TWO_WAYS, 4, "source 3 is not below 3\n"),
         ("007", TWO_WAYS, 4, "source 7 is not below 3\n"),
+        ("9,0,7", LOWERED_TWICE, 4, "source 7 is not below 4\n"),
         ("0", "", 3, "graph: Truncated at token 0, byte 0\n"),
         (
             "0",
@@ -169,12 +170,152 @@ fn each_refusal_of_a_witness_has_its_line(rt: HostRuntime) -> Result<(), Fail> {
 }
 
 #[test]
+fn a_witness_names_its_places_and_sources(rt: HostRuntime) -> Result<(), Fail> {
+    let plain = ["check", "g", "w"].as_slice();
+    for (words, graph, witness, code, out, err) in [
+        (plain, LOWERED_TWICE, LOWERED_FROM_TWO, 0, "yes\n", ""),
+        (
+            ["check", "g", "w", "--source=2,00,2"].as_slice(),
+            LOWERED_TWICE,
+            LOWERED_FROM_TWO,
+            0,
+            "yes\n",
+            "",
+        ),
+        (
+            ["check", "g", "w", "--source", "0"].as_slice(),
+            LOWERED_TWICE,
+            LOWERED_FROM_TWO,
+            4,
+            "",
+            "sources differ at entry 1\n",
+        ),
+        (
+            ["check", "g", "w", "--source", "1,0"].as_slice(),
+            LOWERED_TWICE,
+            LOWERED_FROM_TWO,
+            4,
+            "",
+            "sources differ at entry 1\n",
+        ),
+        (
+            ["upgrade", "g", "w", "--source", "0,2,3"].as_slice(),
+            LOWERED_TWICE,
+            LOWERED_FROM_TWO,
+            4,
+            "",
+            "sources differ at entry 2\n",
+        ),
+        (
+            plain,
+            TRIANGLE,
+            "Cores2 4 7 2 1 2 1 2 1 1 0",
+            4,
+            "",
+            "witness places 7, graph places 8\n",
+        ),
+        (
+            ["check", "g", "w", "--source", "1"].as_slice(),
+            LOOP,
+            "Distances2 1 2 1 0 0 0 -",
+            4,
+            "",
+            "witness places 2, graph places 1\n",
+        ),
+        (
+            plain,
+            LOOP,
+            "Distances2 1 1 2 0 7 0 0 -",
+            4,
+            "",
+            "source 7 is not below 1\n",
+        ),
+        (
+            plain,
+            LOWERED_TWICE,
+            "Distances2 4 4 2 2 2",
+            3,
+            "",
+            "witness: SourceOrder at token 5, byte 19\n",
+        ),
+    ] {
+        expect_answer(
+            &rt,
+            rt.alloc(),
+            &trial_of(words, graph, witness),
+            code,
+            out,
+            err,
+        )?;
+    }
+    Ok(())
+}
+
+#[test]
+fn witnesses_are_upgraded(rt: HostRuntime) -> Result<(), Fail> {
+    let plain = ["upgrade", "g", "w"].as_slice();
+    for (words, graph, witness, code, text) in [
+        (
+            plain,
+            TRIANGLE,
+            "Cores 4 2 1 2 1 2 1 1 0",
+            0,
+            TRIANGLE_CORES,
+        ),
+        (
+            plain,
+            TRIANGLE,
+            "Cores 4 2 1 2 1 2 1 2 0",
+            1,
+            "no 3 LowerBound\n",
+        ),
+        // Levels are taken as they are where they bear the cores out.
+        (plain, LOOP, "Cores 1 1 7", 0, "Cores2\n1 1\n1 7\n"),
+        (
+            plain,
+            TWO_WAYS,
+            "Distances 3 0 0 - 3 2 2 1 1 0",
+            0,
+            TWO_WAYS_TREE,
+        ),
+        (
+            ["upgrade", "g", "w", "--source", "2,0"].as_slice(),
+            LOWERED_TWICE,
+            "Distances 4 0 0 - 6 1 2 0 0 - 11 2 1",
+            0,
+            LOWERED_FROM_TWO,
+        ),
+        (plain, LOWERED_TWICE, LOWERED_FROM_TWO, 0, LOWERED_FROM_TWO),
+        (
+            plain,
+            TWO_SETS,
+            "Cover 5 0 - 0 - - 0 - 0 - 1",
+            0,
+            TWO_SETS_COVER,
+        ),
+    ] {
+        expect_answer(
+            &rt,
+            rt.alloc(),
+            &trial_of(words, graph, witness),
+            code,
+            text,
+            "",
+        )?;
+    }
+    Ok(())
+}
+
+#[test]
 fn other_words_are_not_taken(rt: HostRuntime) -> Result<(), Fail> {
     for words in [
         ["check", "-", "-"].as_slice(),
         ["check", "g", "--source"].as_slice(),
         ["check", "g", "w", "--bare"].as_slice(),
+        ["upgrade", "g"].as_slice(),
+        ["upgrade", "-", "-"].as_slice(),
         ["wbfs", "--bare", "--source", "4294967296", "g"].as_slice(),
+        ["wbfs", "g", "--source", "0,,1"].as_slice(),
         ["wbfs", "--bare", "--source", "0", "g", "w"].as_slice(),
         ["delta", "--bare", "--source", "0", "--delta", "0", "g"].as_slice(),
         ["kcore", "g", "--source", "0"].as_slice(),
@@ -208,7 +349,7 @@ fn results_are_written_whole_and_bare(rt: HostRuntime) -> Result<(), Fail> {
             TRIANGLE,
             "2\n2\n2\n1\n",
         ),
-        (["kcore", "g"].as_slice(), LOOP, "Cores\n1\n1 0\n"),
+        (["kcore", "g"].as_slice(), LOOP, "Cores2\n1 1\n1 0\n"),
         (
             ["wbfs", "g", "--source=0"].as_slice(),
             TWO_WAYS,
@@ -217,20 +358,25 @@ fn results_are_written_whole_and_bare(rt: HostRuntime) -> Result<(), Fail> {
         (
             ["wbfs", "g"].as_slice(),
             APART,
-            "Distances\n3\n0 0 -\n1 1 0\n- - -\n",
+            "Distances2\n3 1\n1 0\n0 0 -\n1 1 0\n- - -\n",
         ),
         (
             ["--delta", "10", "delta", "g"].as_slice(),
             LOWERED_TWICE,
             LOWERED_TWICE_TREE,
         ),
-        (["cover", "g"].as_slice(), NOTHING, "Cover\n0\n"),
+        (
+            ["wbfs", "g", "--source", "2,0,2"].as_slice(),
+            LOWERED_TWICE,
+            LOWERED_FROM_TWO,
+        ),
+        (["cover", "g"].as_slice(), NOTHING, "Cover2\n0 0\n"),
         (
             ["cover", "g"].as_slice(),
             "AdjacencyGraph 2 0 0 0",
-            "Cover\n2\n- -\n- -\n",
+            "Cover2\n2 0\n- -\n- -\n",
         ),
-        (["cover", "g"].as_slice(), LOOP, "Cover\n1\n0 0\n"),
+        (["cover", "g"].as_slice(), LOOP, "Cover2\n1 1\n0 0\n"),
         (["cover", "g"].as_slice(), TWO_SETS, TWO_SETS_COVER),
         (["cover", "g"].as_slice(), OVERLAPPING, OVERLAPPING_COVER),
         (

@@ -30,17 +30,19 @@ pub const NO_WEIGHTS: &str = "WeightedAdjacencyGraph 3 3 0 1 2 1 2 1 5 0 0";
 /// Two sets of two elements with one in common.
 pub const TWO_SETS: &str = "AdjacencyGraph 5 4 0 2 4 4 4 2 3 3 4";
 /// The cores of the triangle.
-pub const TRIANGLE_CORES: &str = "Cores\n4\n2 1\n2 1\n2 1\n1 0\n";
+pub const TRIANGLE_CORES: &str = "Cores2\n4 8\n2 1\n2 1\n2 1\n1 0\n";
 /// The distances, hops and parents of the two ways.
-pub const TWO_WAYS_TREE: &str = "Distances\n3\n0 0 -\n3 2 2\n1 1 0\n";
+pub const TWO_WAYS_TREE: &str = "Distances2\n3 3\n1 0\n0 0 -\n3 2 2\n1 1 0\n";
 /// The cores of the two triangles.
-pub const TWO_TRIANGLES_CORES: &str = "Cores\n6\n2 0\n2 0\n2 1\n2 1\n2 0\n2 0\n";
+pub const TWO_TRIANGLES_CORES: &str = "Cores2\n6 14\n2 0\n2 0\n2 1\n2 1\n2 0\n2 0\n";
 /// The distances, hops and parents where a vertex is lowered twice.
-pub const LOWERED_TWICE_TREE: &str = "Distances\n4\n0 0 -\n7 2 2\n1 1 0\n12 3 1\n";
+pub const LOWERED_TWICE_TREE: &str = "Distances2\n4 4\n1 0\n0 0 -\n7 2 2\n1 1 0\n12 3 1\n";
+/// The same from the sources 0 and 2.
+pub const LOWERED_FROM_TWO: &str = "Distances2\n4 4\n2 0 2\n0 0 -\n6 1 2\n0 0 -\n11 2 1\n";
 /// The cover by the sets that overlap.
-pub const OVERLAPPING_COVER: &str = "Cover\n9\n0 -\n1 -\n- -\n- -\n- 0\n- 0\n- 0\n- 0\n- 1\n";
+pub const OVERLAPPING_COVER: &str = "Cover2\n9 8\n0 -\n1 -\n- -\n- -\n- 0\n- 0\n- 0\n- 0\n- 1\n";
 /// The cover by the two sets.
-pub const TWO_SETS_COVER: &str = "Cover\n5\n0 -\n0 -\n- 0\n- 0\n- 1\n";
+pub const TWO_SETS_COVER: &str = "Cover2\n5 4\n0 -\n0 -\n- 0\n- 0\n- 1\n";
 
 /// The most bytes that a read of a trial moves.
 pub const READ_MOST: usize = 5;

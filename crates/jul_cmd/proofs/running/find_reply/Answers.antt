@@ -1,7 +1,7 @@
 use Rattle.std.proofs.Common.{ap}
-use Rattle.std.proofs.lemmas.Result.{IfOk-weaker}
-use Rattle.jul_query.specs.Asking.{input_of, work_of, problem_of, form_of, named_sources}
-use Rattle.jul_cmd.proofs.VerdictLaws.{at_err, if_err_weaker}
+use Rattle.std.proofs.lemmas.Result.{IfOk-weaker, IfErr-weaker}
+use Rattle.jul_query.specs.Asking.{input_of, work_of, problem_of, form_of, named_sources, purpose_of}
+use Rattle.jul_cmd.proofs.VerdictLaws.{at_err}
 use Rattle.jul_cmd.proofs.AnswerLaws.{input_refused, solve_done, solve_refused, checked_done, check_refused}
 use Rattle.jul_cmd.proofs.running.find_reply.Goals as goal
 
@@ -18,17 +18,17 @@ returns-in-Solve-clause-found g c =
 
 pub returns-in-Solve-clause-refused : goal.returns-in-Solve-clause-refused
 returns-in-Solve-clause-refused g c =
-    if_err_weaker c.solve.result _ _ (λ status unsolved.
+    IfErr-weaker c.solve.result _ _ (λ status unsolved.
     solve_refused (input_of c.args.query.input) (work_of c.args.query.work) (problem_of c.in-Solve.problem) (form_of c.in-Solve.form) _ _ c.in_ok-loaded.loaded.rows status (ap work_of c.in-Solve.is)
     c.in_ok-loaded.ensures.rows unsolved) c.solve.ensures.refused
 
 pub returns-clause-found : goal.returns-clause-found
 returns-clause-found g c =
-    checked_done (input_of c.args.query.input) (work_of c.args.query.work) _ _ _ c.in_ok-loaded.loaded.rows c.in-Check.witness.now (named_sources c.in-Check.source) c.check.result (ap work_of c.in-Check.is)
-    c.in_ok-loaded.ensures.rows c.check.ensures.given c.check.ensures.found
+    checked_done (input_of c.args.query.input) (work_of c.args.query.work) _ _ _ c.in_ok-loaded.loaded.rows (purpose_of c.in-Judge.purpose) c.in-Judge.witness.now (named_sources c.in-Judge.sources) c.judge.result (ap work_of c.in-Judge.is)
+    c.in_ok-loaded.ensures.rows c.judge.ensures.given c.judge.ensures.found
 
 pub returns-clause-refused : goal.returns-clause-refused
 returns-clause-refused g c =
-    if_err_weaker c.check.result _ _ (λ status unchecked.
-    check_refused (input_of c.args.query.input) (work_of c.args.query.work) _ _ _ c.in_ok-loaded.loaded.rows c.in-Check.witness.now (named_sources c.in-Check.source) status (ap work_of c.in-Check.is)
-    c.load_input.ensures.faults c.in_ok-loaded.ensures.rows unchecked) c.check.ensures.refused
+    IfErr-weaker c.judge.result _ _ (λ status unchecked.
+    check_refused (input_of c.args.query.input) (work_of c.args.query.work) _ _ _ c.in_ok-loaded.loaded.rows (purpose_of c.in-Judge.purpose) c.in-Judge.witness.now (named_sources c.in-Judge.sources) status (ap work_of c.in-Judge.is)
+    c.load_input.ensures.faults c.in_ok-loaded.ensures.rows unchecked) c.judge.ensures.refused
