@@ -37,8 +37,9 @@ impl<'a, 'b> Job for WindowJob<'a, 'b> {
         → AreMirrored j.rows.now (slice_index j.bounds.now chunk) (slice_index j.bounds.now (chunk + 1)) };
 
     fn run(&self, chunk: u32, _token: &mut Free) -> Result<bool, AllocError> {
-        let at = chunk as usize;
-        self.rows.is_window_mirrored(self.bounds[at], self.bounds[at + 1])
+        let from = self.bounds[chunk as usize];
+        let to = self.bounds[chunk as usize + 1];
+        self.rows.is_window_mirrored(from, to)
     }
 }
 

@@ -166,8 +166,14 @@ fn a_symmetric_graph_is_found_symmetric_in_windows(rt: HostRuntime) -> Result<()
             chunk: 1,
             gate: &OpenGate,
         };
-        assert!(rt; are_windows_mirrored(&rt, rt.alloc(), &team, &rows)?, "{workers} workers");
-        assert!(rt; is_found_symmetric(&rt, rt.alloc(), &team, &rows)?, "{workers} workers");
+        assert!(rt;
+            are_windows_mirrored(&rt, rt.alloc(), &team, &rows)?,
+            "{workers} workers"
+        );
+        assert!(rt;
+            is_found_symmetric(&rt, rt.alloc(), &team, &rows)?,
+            "{workers} workers"
+        );
     }
     Ok(())
 }

@@ -1,4 +1,4 @@
-use Rattle.std.proofs.Common.{◌≡◌, List, Bool, ℕ, ◌∙◌, sym, subst}
+use Rattle.std.proofs.Common.{Bool, ℕ, sym, subst}
 use Rattle.std.specs.Prelude.{All, IsTrue}
 use Rattle.jul_base.specs.Graph.{vertices}
 use Rattle.jul_core.specs.Windows.{AreWindows}
