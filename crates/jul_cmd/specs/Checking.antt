@@ -94,7 +94,7 @@ abbrev pub yes_text : Purpose → ℕ → List ℕ → Columns → List ℕ
 yes_text check m sources columns = codes "yes\n"
 yes_text upgrade m sources columns = columns_text m sources columns
 
--- what is written of columns that it doesn't: the vertex that fails, and its reason
+-- what is written of columns that a graph doesn't bear out: the vertex that fails, and its reason
 abbrev pub no_text : ℕ → Reason → List ℕ
 no_text vertex reason = codes "no " ++ decimal vertex ++ codes " " ++ reason_name reason ++ codes "\n"
 

@@ -24,7 +24,7 @@ pub struct Resources<'r, 'g, R: Threads + Sync, G: Gate> {
 }
 
 impl<'r, 'g, R: Threads + Sync, G: Gate> Resources<'r, 'g, R, G> {
-    /// What the words say of how to work. A judge of witnesses works alone.
+    /// What the words say of how to work. One worker judges a witness.
     pub fn of(rt: &'r R, alloc: Global, gate: &'g G, query: &Query<'_>) -> Resources<'r, 'g, R, G>
         requires { AreSettingsInRange query.now.settings }
     {
