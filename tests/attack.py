@@ -3,7 +3,8 @@
     tests/attack.py [COUNT] [SEED]
 
 Turn by turn the same for each count of a seed; it ends at the first turn that isn't answered as the oracle answers. A whole
-text that was answered is checked by the program itself, on the same graph and source.
+text that was answered is handed to the program again, on the same graph and without sources: a check says yes, and an upgrade
+gives the same bytes.
 """
 import random
 import sys
@@ -17,6 +18,7 @@ import scenes
 from oracle.command_line import asked
 
 GATE_TURNS, GATE_SEED = 6000, 20
+YES = b"yes\n"
 
 
 def case(seed, turn):
@@ -35,21 +37,21 @@ def is_whole(asked_for, code):
     return code == 0 and asked_for.task != b"check" and asked_for.sizes is None and not asked_for.is_bare
 
 
-def compare_check(tally, folder, what, asked_for, text, stdin):
-    """Has the program check the text that it wrote."""
+def compare_again(tally, folder, what, graph, text, stdin):
+    """Has the program check and upgrade the text that it wrote; no sources are given, since the text names its own."""
     program.write(folder, "text", text)
-    words = [b"check", b"--source", b"%d" % asked_for.source, b"--", asked_for.graph, b"text"]
-    tally.compare(f"check of the text of {what}", program.run(words, stdin, folder), (0, b"yes\n", b""))
+    for task, out in ((b"check", YES), (b"upgrade", text)):
+        tally.compare(f"{task} of the text of {what}", program.run([task, b"--", graph, b"text"], stdin, folder), (0, out, b""))
 
 
 def compare_turn(tally, folder, what, words, files):
-    """Compares the answer to words and files with that of the oracle, and checks a whole text."""
+    """Compares the answer to words and files with that of the oracle, and hands a whole text to the program again."""
     for name in (b"g", b"w", b"-g"):
         program.write(folder, name.decode(), files[name])
     got, wanted = program.run(words, files[b"-"], folder), oracle.answer(words, files)
     tally.compare(what, got, wanted)
     if got == wanted and is_whole(asked(words), got[0]):
-        compare_check(tally, folder, what, asked(words), got[1], files[b"-"])
+        compare_again(tally, folder, what, asked(words).graph, got[1], files[b"-"])
 
 
 def attack(tally, folder, count, seed):

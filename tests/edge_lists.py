@@ -47,6 +47,9 @@ NAMES = b"New York\n7\nc\n"
 # an answer and its lines behind names
 ANSWERS = [
     (b"0\n-\n12\n", b"New York\t0\n7\t-\nc\t12\n"),
+    (b"Cores2\n3 4\n1 0\n2 1\n2 1\n", b"New York\t1\t0\n7\t2\t1\nc\t2\t1\n"),
+    (b"Distances2\n3 4\n2 0 1\n0 0 -\n5 1 0\n- - -\n", b"New York\t0\t0\t-\n7\t5\t1\tNew York\nc\t-\t-\t-\n"),
+    (b"Cover2\n3 4\n0 1\n0 2\n- -\n", b"New York\t0\t7\n7\t0\tc\nc\t-\t-\n"),
     (b"Cores\n3\n1 0\n2 1\n2 1\n", b"New York\t1\t0\n7\t2\t1\nc\t2\t1\n"),
     (b"Distances\n3\n0 0 -\n5 1 0\n- - -\n", b"New York\t0\t0\t-\n7\t5\t1\tNew York\nc\t-\t-\t-\n"),
     (b"Cover\n3\n0 1\n0 2\n- -\n", b"New York\t0\t7\n7\t0\tc\nc\t-\t-\n"),
@@ -102,7 +105,8 @@ def test_names(tally, folder):
     tally.compare("too few lines", short, (1, b"", b"names: 3 names, but the answer has 2 vertices\n"))
     tally.compare("the number of a name", run(["number", "names", "7"], b"", folder), (0, b"1\n", b""))
     tally.compare("the number of a name with blanks", run(["number", "names", "New York"], b"", folder), (0, b"0\n", b""))
-    unknown = run(["number", "names", "Rio"], b"", folder)
+    tally.compare("the numbers of some names", run(["number", "names", "c", "New York", "c"], b"", folder), (0, b"2,0,2\n", b""))
+    unknown = run(["number", "names", "7", "Rio"], b"", folder)
     tally.compare("no such name", unknown, (1, b"", b"names: no vertex is named Rio\n"))
 
 

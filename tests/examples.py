@@ -63,12 +63,14 @@ def test_commands(tally, folder, readme):
 
 
 def test_results(tally):
-    """The two results are those that the tests find by searches of their own."""
-    cores = oracle.cores_lines(oracle.read_graph(read("karate_club.adj")))
-    tally.compare("the cores of the club", read("karate_club.cores").split(), texts.plain(texts.witness_tokens("Cores", cores)).split())
-    tree = oracle.distances_lines(oracle.read_graph(read("swiss_roads.wadj")), 0)
-    wanted = texts.plain(texts.witness_tokens("Distances", tree)).split()
-    tally.compare("the distances from Bern", read("swiss_roads.distances").split(), wanted)
+    """The three results are those that the tests find by searches of their own, the last one in version 1."""
+    club, roads = (oracle.read_graph(read(name)) for name in ("karate_club.adj", "swiss_roads.wadj"))
+    cores = texts.witness("Cores", oracle.cores_lines(club), sum(map(len, club)))
+    tally.compare("the cores of the club", read("karate_club.cores"), cores)
+    tree = texts.witness("Distances", oracle.distances_lines(roads, [0]), sum(map(len, roads)), [0])
+    tally.compare("the distances from Bern", read("swiss_roads.distances"), tree)
+    before = texts.plain(texts.witness_tokens("Distances", oracle.distances_lines(roads, [9])))
+    tally.compare("the distances from Chur", read("swiss_roads_from_chur.distances").split(), before.split())
 
 
 def test_list(tally, folder, readme):

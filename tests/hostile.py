@@ -11,7 +11,8 @@ import time
 import program
 
 GRAPH = b"AdjacencyGraph\n4\n8\n0\n2\n4\n7\n1\n2\n0\n2\n0\n1\n3\n2\n"
-CORES = b"Cores\n4\n2 1\n2 1\n2 1\n1 0\n"
+CORES = b"Cores2\n4 8\n2 1\n2 1\n2 1\n1 0\n"
+CORES_BEFORE = b"Cores\n4\n2 1\n2 1\n2 1\n1 0\n"
 NO_GRAPH, NO_WITNESS, NO_WRITING = b"read fault: graph\n", b"read fault: witness\n", b"write fault\n"
 NO_MEMORY = b"out of memory\n"
 DEMO = "demo kcore --n 20000 --pairs 60000 --seed 7 --workers 7"
@@ -28,6 +29,9 @@ UNREADABLE = [
     ([b"kcore", b"no\nfile"], NO_GRAPH),
     ([b"kcore", b"ring"], NO_GRAPH),
     ([b"check", b"g", b"dangling"], NO_WITNESS),
+    ([b"upgrade", b"g", b"folder"], NO_WITNESS),
+    ([b"upgrade", b"folder", b"folder"], NO_GRAPH),
+    ([b"upgrade", b"g", b"ring"], NO_WITNESS),
     ([b"kcore", b"socket"], NO_GRAPH),
     ([b"check", b"socket", b"socket"], NO_GRAPH),
     ([b"kcore", b"g/g"], NO_GRAPH),
@@ -37,7 +41,7 @@ UNREADABLE = [
 
 def make_files(folder):
     """Files of many kinds, and a program that anyone may run."""
-    for name, text in (("g", GRAPH), ("w", CORES), ("a\nb", GRAPH), (" ", GRAPH), ("locked", GRAPH)):
+    for name, text in (("g", GRAPH), ("w", CORES_BEFORE), ("a\nb", GRAPH), (" ", GRAPH), ("locked", GRAPH)):
         program.write(folder, name, text)
     os.mkdir(os.path.join(folder, "folder"))
     os.symlink("ring", os.path.join(folder, "ring"))
@@ -110,12 +114,12 @@ def test_refusals(tally, folder):
         started = start(["kcore", "g"], folder, stdout=out, preexec_fn=with_short_files, restore_signals=False)
         tally.compare("a short file", ended(started), (6, None, NO_WRITING))
     with open(os.path.join(folder, "short"), "rb") as out:
-        tally.compare("what is in the short file", out.read(), CORES[:10])
+        tally.compare("what is in the short file", out.read(), b"Cores2\n4 8")
 
 
 def test_memory(tally, folder):
     """Little memory: the answer, or that there is none."""
-    for words, text in (("kcore g", CORES), ("check g w", b"yes\n"), (DEMO, DEMO_LINE)):
+    for words, text in (("kcore g", CORES), ("check g w", b"yes\n"), ("upgrade g w", CORES), (DEMO, DEMO_LINE)):
         for megabytes in (6, 8, 12, 16, 24, 48):
             most = megabytes * MEGABYTE
             got = ended(start(words.split(), folder, preexec_fn=lambda: resource.setrlimit(resource.RLIMIT_AS, (most, most))))
@@ -133,7 +137,8 @@ def write_slowly(stream, text):
 
 def test_slow_input(tally, folder):
     """Standard input that comes a byte at a time, that has nothing to give, and a program that is held meanwhile."""
-    for words, text, out in ((["kcore", "-"], GRAPH, CORES), (["check", "g", "-"], CORES, b"yes\n")):
+    for words, text, out in ((["kcore", "-"], GRAPH, CORES), (["check", "g", "-"], CORES, b"yes\n"),
+                             (["upgrade", "g", "-"], CORES_BEFORE, CORES)):
         started = start(words, folder, stdin=subprocess.PIPE)
         writer = threading.Thread(target=write_slowly, args=(started.stdin, text))
         writer.start()
@@ -143,7 +148,7 @@ def test_slow_input(tally, folder):
         writer.join()
         started.stdin = None
         tally.compare(f"{words} slowly", ended(started), (0, out, b""))
-    for words, line in ((["kcore", "-"], NO_GRAPH), (["check", "g", "-"], NO_WITNESS)):
+    for words, line in ((["kcore", "-"], NO_GRAPH), (["check", "g", "-"], NO_WITNESS), (["upgrade", "g", "-"], NO_WITNESS)):
         reading, writing = os.pipe()
         os.set_blocking(reading, False)
         tally.compare(f"{words}, an input that doesn't wait", ended(start(words, folder, stdin=reading)), (5, b"", line))
@@ -185,10 +190,13 @@ def test_changing_files(tally, folder):
             ("it grows", "kcore fifo", [GRAPH, pause, b"7"], (3, b"", b"graph: Trailing at token 15, byte %d\n" % length)),
             ("its writer ends", "kcore fifo", [head, pause], (3, b"", b"graph: Truncated at token 4, byte 20\n")),
             ("nobody writes", "kcore fifo", [], (3, b"", b"graph: Truncated at token 0, byte 0\n")),
-            ("a witness that ends", "check g fifo", [CORES[:9], pause], (3, b"", b"witness: Truncated at token 3, byte 9\n")),
+            ("a witness that ends", "check g fifo", [CORES[:12], pause], (3, b"", b"witness: Truncated at token 4, byte 12\n")),
             ("the witness stays", "check fifo changing", [head, pause, tail], (0, b"yes\n", b"")),
             ("the witness grows", "check fifo changing", [head, pause, grow, tail],
-             (3, b"", b"witness: Trailing at token 10, byte %d\n" % (len(CORES) + 1))),
+             (3, b"", b"witness: Trailing at token 11, byte %d\n" % (len(CORES) + 1))),
+            ("the witness stays", "upgrade fifo changing", [head, pause, tail], (0, CORES, b"")),
+            ("the witness grows", "upgrade fifo changing", [head, pause, grow, tail],
+             (3, b"", b"witness: Trailing at token 11, byte %d\n" % (len(CORES) + 1))),
             ("the witness vanishes", "check fifo changing", [head, pause, vanish, tail], (5, b"", NO_WITNESS))):
         program.write(folder, "changing", CORES)
         tally.compare(f"{words}, {what}", fed_by_pipe(words, pieces, folder), wanted)

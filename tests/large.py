@@ -6,13 +6,14 @@ import program
 import texts
 
 N, PAIRS, GENERATED_BY = 100_000, 500_000, 7
-SOURCE, TAMPERED = 4_321, 77_777
+SOURCES, TAMPERED = [4_321, 50_000, 99_999], 77_777
+LIST = b"--source=%s" % b",".join(b"%d" % source for source in reversed(SOURCES))
 MEMORIES = [10_000, 14_000, 18_000, 20_000, 22_000, 24_000, 26_000, 28_000, 32_000, 40_000, 60_000, 1_000_000]     # KiB
 SETTINGS = [[b"--workers", b"1"], [b"--workers", b"7", b"--chunk", b"1000", b"--open", b"16"]]
 # word of the text, words that write it
 TASKS = [
-    ("Distances", [b"wbfs", b"--source", b"%d" % SOURCE]),
-    ("Distances", [b"delta", b"--source", b"%d" % SOURCE, b"--delta", b"25"]),
+    ("Distances", [b"wbfs", LIST]),
+    ("Distances", [b"delta", LIST, b"--delta", b"25"]),
     ("Cores", [b"kcore"]),
     ("Cover", [b"cover"]),
 ]
@@ -40,8 +41,7 @@ def test_texts(tally, folder, graph, columns):
     """Each task's text with few and with many workers, from a file and from standard input, whole and bare."""
     for word, words in TASKS:
         lines = columns[word]
-        whole = "".join(f"{' '.join('-' if entry is None else str(entry) for entry in line)}\n" for line in lines)
-        wanted = 0, f"{word}\n{N}\n{whole}".encode(), b""
+        wanted = 0, texts.witness(word, lines, 2 * PAIRS, SOURCES), b""
         for more in SETTINGS:
             tally.compare(f"large graph, {words + more}", program.run([*words, b"large", *more], b"", folder), wanted)
         tally.compare(f"large graph as input, {words}", program.run([*words, b"-"], graph, folder), wanted)
@@ -84,18 +84,39 @@ def test_asymmetric(tally, folder, rows):
 
 
 def test_witness(tally, folder, rows, word, lines):
-    """A right witness, and the same with one entry changed."""
-    wanted = {"right": (0, b"yes\n", b"")}
-    program.write(folder, "right", texts.plain(texts.witness_tokens(word, lines)))
+    """A right witness of either version, and the same with one entry changed, which are checked and upgraded."""
+    whole = texts.witness(word, lines, 2 * PAIRS, SOURCES)
+    wanted = {"before": (0, b"yes\n", b""), "right": (0, b"yes\n", b"")}
+    program.write(folder, "before", texts.plain(texts.witness_tokens(word, lines)))
+    program.write(folder, "right", whole)
     for column, by in TAMPERINGS[word]:
         tampered = changed(lines, TAMPERED, column, by)
         name = f"column {column} by {by}"
-        program.write(folder, name, texts.plain(texts.witness_tokens(word, tampered)))
-        wanted[name] = (*oracle.verdict(rows, word.encode(), tampered, SOURCE), b"")
-    for name in wanted:
-        got = program.run([b"check", b"large", name.encode(), b"--source", b"%d" % SOURCE], b"", folder)
-        tally.compare(f"large graph, {word}, {name}", got, wanted[name])
-        tally.compare(f"a verdict on {word}, {name}", got[0], 0 if name == "right" else 1)
+        program.write(folder, name, texts.plain(texts.witness_tokens(word, tampered, 2 * PAIRS, SOURCES)))
+        wanted[name] = (*oracle.verdict(rows, word.encode(), tampered, SOURCES), b"")
+    for name, answer in wanted.items():
+        named = [LIST] if name == "before" else []
+        tally.compare(f"large graph, {word}, {name}", program.run([b"check", b"large", name.encode(), *named], b"", folder), answer)
+        tally.compare(f"a verdict on {word}, {name}", answer[0], 0 if name in ("before", "right") else 1)
+        upgraded = (0, whole, b"") if answer[0] == 0 else answer
+        tally.compare(f"an upgrade of {word}, {name}", program.run([b"upgrade", b"large", name.encode(), *named], b"", folder), upgraded)
+
+
+def test_misfits(tally, folder, columns):
+    """A witness of other places, one of other sources, and one with a token too many or too few."""
+    lines = columns["Distances"]
+    right = texts.witness("Distances", lines, 2 * PAIRS, SOURCES)
+    cut = right[:-1].rstrip(b"-0123456789")
+    tokens, places = 4 + len(SOURCES) + 3 * N, 2 * PAIRS
+    for text, line in (
+            (texts.witness("Distances", lines, places - 1, SOURCES), b"witness places %d, graph places %d\n" % (places - 1, places)),
+            (texts.witness("Distances", lines, places, SOURCES[:2]), b"sources differ at entry 2\n"),
+            (right + b"7", b"witness: Trailing at token %d, byte %d\n" % (tokens, len(right))),
+            (cut, b"witness: Truncated at token %d, byte %d\n" % (tokens - 1, len(cut)))):
+        program.write(folder, "misfit", text)
+        for task in (b"check", b"upgrade"):
+            got = program.run([task, b"large", b"misfit", LIST], b"", folder)
+            tally.compare(f"large graph, {task}, {line}", got, (3 if b":" in line else 4, b"", line))
 
 
 def run_with_little_memory(kibibytes, words, folder):
@@ -109,8 +130,8 @@ def test_memory(tally, folder):
     """The right answer or none: with little memory none, with enough of it the right one. The witness is the one written last."""
     none = 7, b"", b"out of memory\n"
     demo = ["demo", "kcore", "--n", str(N), "--pairs", str(PAIRS), "--seed", "7"]
-    check = ["check", "large", "right"]
-    for words in (["wbfs", "--bare", "large"], ["wbfs", "large"], ["kcore", "large"], ["cover", "large"], check, demo):
+    judged = [[task, "large", "right"] for task in ("check", "upgrade")]
+    for words in (["wbfs", "--bare", "large"], ["wbfs", "large"], ["kcore", "large"], ["cover", "large"], *judged, demo):
         right = program.run(words, b"", folder)
         answers = [run_with_little_memory(kibibytes, words, folder) for kibibytes in MEMORIES]
         for kibibytes, answer in zip(MEMORIES, answers):
@@ -123,11 +144,12 @@ def test(tally, folder):
     rows = oracle.generate(N, PAIRS, GENERATED_BY)
     graph = texts.plain(texts.graph_tokens(rows, True))
     program.write(folder, "large", graph)
-    columns = {word: oracle.columns(word.encode(), rows, SOURCE) for word in ("Distances", "Cores", "Cover")}
+    columns = {word: oracle.columns(word.encode(), rows, SOURCES) for word in ("Distances", "Cores", "Cover")}
     test_texts(tally, folder, graph, columns)
     test_demos(tally, folder, columns)
     test_faults(tally, folder, graph)
     test_asymmetric(tally, folder, rows)
+    test_misfits(tally, folder, columns)
     for word, lines in columns.items():
         test_witness(tally, folder, rows, word, lines)
     test_memory(tally, folder)

@@ -5,7 +5,7 @@ import os
 import program
 
 MAX_BYTES = 2**32
-MAX_N, MAX_M, MAX_W, MAX_PAIRS = 2**24, 2**27, 2**32 - 1, 2**26
+MAX_N, MAX_M, MAX_W, MAX_PAIRS, MAX_SOURCES = 2**24, 2**27, 2**32 - 1, 2**26, 1024
 BLOCK = 2**16       # lines that are made at a time
 # words, standard output
 DEMOS = [
@@ -61,15 +61,32 @@ def compare_long(tally, folder, words, head, lines):
 def test_most_vertices(tally, folder):
     """As many vertices as there may be, without a place."""
     write_blocks(folder, "none", b"AdjacencyGraph %d 0\n" % MAX_N, blocks(MAX_N, lambda v: b"0\n"))
-    compare_long(tally, folder, "kcore none", b"Cores\n%d\n" % MAX_N, blocks(MAX_N, lambda v: b"0 0\n"))
-    compare_long(tally, folder, "cover none", b"Cover\n%d\n" % MAX_N, blocks(MAX_N, lambda v: b"- -\n"))
-    compare_long(tally, folder, "wbfs none", b"Distances\n%d\n0 0 -\n" % MAX_N, blocks(MAX_N - 1, lambda v: b"- - -\n"))
+    compare_long(tally, folder, "kcore none", b"Cores2\n%d 0\n" % MAX_N, blocks(MAX_N, lambda v: b"0 0\n"))
+    compare_long(tally, folder, "cover none", b"Cover2\n%d 0\n" % MAX_N, blocks(MAX_N, lambda v: b"- -\n"))
+    compare_long(tally, folder, "wbfs none", b"Distances2\n%d 0\n1 0\n0 0 -\n" % MAX_N, blocks(MAX_N - 1, lambda v: b"- - -\n"))
+
+
+def test_most_sources(tally, folder):
+    """As many sources as there may be, of a chain of as many vertices as there may be: each 16,384th vertex, named in falling order."""
+    apart = MAX_N // MAX_SOURCES
+    sources = range(0, MAX_N, apart)
+    words = "wbfs chain --source " + ",".join(map(str, reversed(sources)))
+    head = b"Distances2\n%d %d\n%d %s\n" % (MAX_N, MAX_N - 1, MAX_SOURCES, b" ".join(b"%d" % source for source in sources))
+
+    def lines():
+        return blocks(MAX_N, lambda v: b"%d %d %d\n" % (v % apart * MAX_W, v % apart, v - 1) if v % apart else b"0 0 -\n")
+
+    compare_long(tally, folder, words, head, lines())
+    write_blocks(folder, "named", head, lines())
+    tally.compare("check chain named", program.run([b"check", b"chain", b"named"], b"", folder), (0, b"yes\n", b""))
+    compare_long(tally, folder, "upgrade chain named", head, lines())
 
 
 def test_most_places(tally, folder):
     """As many places as there may be, all of one vertex with itself."""
     write_blocks(folder, "loops", b"AdjacencyGraph 1 %d 0\n" % MAX_M, blocks(MAX_M, lambda place: b"0\n"))
-    texts = {"kcore loops": b"Cores\n1\n134217728 0\n", "cover loops": b"Cover\n1\n0 0\n", "wbfs loops": b"Distances\n1\n0 0 -\n"}
+    texts = {"kcore loops": b"Cores2\n1 134217728\n134217728 0\n", "cover loops": b"Cover2\n1 134217728\n0 0\n",
+             "wbfs loops": b"Distances2\n1 134217728\n1 0\n0 0 -\n"}
     for words, text in texts.items():
         tally.compare(words, program.run(words.split(), b"", folder), (0, text, b""))
 
@@ -80,7 +97,8 @@ def test_greatest_distances(tally, folder):
                  blocks(MAX_N - 1, lambda v: b"%d\n" % (v + 1)), blocks(MAX_N - 1, lambda v: b"%d\n" % MAX_W))
     compare_long(tally, folder, "wbfs --bare chain", b"", blocks(MAX_N, lambda v: b"%d\n" % (v * MAX_W)))
     tree = blocks(MAX_N - 1, lambda v: b"%d %d %d\n" % ((v + 1) * MAX_W, v + 1, v))
-    compare_long(tally, folder, f"delta --delta {MAX_W} chain", b"Distances\n%d\n0 0 -\n" % MAX_N, tree)
+    head = b"Distances2\n%d %d\n1 0\n0 0 -\n" % (MAX_N, MAX_N - 1)
+    compare_long(tally, folder, f"delta --delta {MAX_W} chain", head, tree)
 
 
 def test_both_limits(tally, folder):
@@ -88,10 +106,12 @@ def test_both_limits(tally, folder):
     near = (-4, -3, -2, -1, 1, 2, 3, 4)
     rows = blocks(MAX_N, lambda v: b"%d\n%d\n%d\n%d\n%d\n%d\n%d\n%d\n" % tuple((v + step) % MAX_N for step in near))
     write_blocks(folder, "ring", b"AdjacencyGraph %d %d\n" % (MAX_N, MAX_M), blocks(MAX_N, lambda v: b"%d\n" % (8 * v)), rows)
-    compare_long(tally, folder, "kcore ring", b"Cores\n%d\n" % MAX_N, blocks(MAX_N, lambda v: b"8 0\n"))
+    head = b"Cores2\n%d %d\n" % (MAX_N, MAX_M)
+    compare_long(tally, folder, "kcore ring", head, blocks(MAX_N, lambda v: b"8 0\n"))
     compare_long(tally, folder, "wbfs --bare ring", b"", blocks(MAX_N, lambda v: b"%d\n" % ((min(v, MAX_N - v) + 3) // 4)))
     write_blocks(folder, "witness", b"Cores\n%d\n" % MAX_N, blocks(MAX_N, lambda v: b"8 0\n"))
     tally.compare("check ring witness", program.run([b"check", b"ring", b"witness"], b"", folder), (0, b"yes\n", b""))
+    compare_long(tally, folder, "upgrade ring witness", head, blocks(MAX_N, lambda v: b"8 0\n"))
 
 
 def test(tally, folder):
@@ -102,4 +122,5 @@ def test(tally, folder):
     test_most_vertices(tally, folder)
     test_most_places(tally, folder)
     test_greatest_distances(tally, folder)
+    test_most_sources(tally, folder)
     test_both_limits(tally, folder)

@@ -115,18 +115,19 @@ def test_long_tokens(tally, folder):
 
 
 def test_prefixes(tally, folder):
-    """The first tokens of some graphs and of a witness."""
+    """The first tokens of some graphs and of some witnesses."""
     for graph in (answers.TAILED_TRIANGLE, answers.TWO_WAYS, answers.GREATEST_WEIGHTS):
         tokens = graph.split()
         for count in range(len(tokens)):
             text = b" ".join(tokens[:count])
             line = b"graph: Truncated at token %d, byte %d\n" % (count, len(text))
             answers.compare(tally, folder, [b"kcore", b"g"], {b"g": text}, (3, b"", line))
-    tokens = b"Cores 4 2 1 2 1 2 1 1 0".split()
-    for count in range(len(tokens)):
-        text = b" ".join(tokens[:count])
-        line = b"witness: Truncated at token %d, byte %d\n" % (count, len(text))
-        answers.compare(tally, folder, [b"check", b"g", b"w"], {b"g": answers.TAILED_TRIANGLE, b"w": text}, (3, b"", line))
+    for witness in (b"Cores 4 2 1 2 1 2 1 1 0", answers.CORES, answers.FROM_TWO):
+        tokens = witness.split()
+        for count in range(len(tokens)):
+            text = b" ".join(tokens[:count])
+            line = b"witness: Truncated at token %d, byte %d\n" % (count, len(text))
+            answers.compare(tally, folder, [b"check", b"g", b"w"], {b"g": answers.TAILED_TRIANGLE, b"w": text}, (3, b"", line))
 
 
 def test(tally, folder):

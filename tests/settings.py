@@ -60,13 +60,19 @@ def crowded_pairs(rng, task):
     return CROWDED[task](rng, rng.choice(PLACES), rng.choice([50, 200, 500]))
 
 
+def random_list(rng, n):
+    """A list of one source, mostly vertex 0, or of many."""
+    many = rng.choices(range(n), k=rng.choice([2, 9, 500]))
+    return b",".join(b"%d" % source for source in rng.choice([[0], [0], many[:1], many]))
+
+
 def random_task(rng, make_pairs):
     """A graph, the words of a task that it is suited to, and the widths that change no byte."""
     task = rng.choice([b"kcore", b"cover", b"wbfs", b"delta"])
     n, pairs = make_pairs(rng, task)
     rows = families.rows_of(rng, pairs, n, task == b"kcore" or task != b"cover" and rng.random() < 0.5)
-    source = [b"--source", b"%d" % rng.choice([0, 0, rng.randrange(0, n)])] if task in (b"wbfs", b"delta") else []
-    return rows, [task, b"g", *source], [[b"--delta", b"%d" % width] for width in WIDTHS] if task == b"delta" else [[]]
+    named = [b"--source", random_list(rng, n)] if task in (b"wbfs", b"delta") else []
+    return rows, [task, b"g", *named], [[b"--delta", b"%d" % width] for width in WIDTHS] if task == b"delta" else [[]]
 
 
 def compare_settings(tally, folder, what, rng, make_pairs):

@@ -8,8 +8,8 @@ GRAPH = b"WeightedAdjacencyGraph 3 3 0 2 2 1 2 1 5 1 2"
 PAIR = b"AdjacencyGraph 2 2 0 1 1 0"
 WITNESS = b"Distances 3 0 0 - 3 2 2 1 1 0"
 DISTANCES = b"0\n3\n1\n"
-TREE = b"Distances\n3\n0 0 -\n3 2 2\n1 1 0\n"
-CORES = b"Cores\n2\n1 0\n1 0\n"
+TREE = b"Distances2\n3 3\n1 0\n0 0 -\n3 2 2\n1 1 0\n"
+CORES = b"Cores2\n2 2\n1 0\n1 0\n"
 LOOPED = b"kcore n 1 m 6 max 6 top 1\n"
 BROKEN = b"graph: Truncated at token 0, byte 0\n"
 NO_GRAPH, NO_WITNESS, NO_WRITING = b"read fault: graph\n", b"read fault: witness\n", b"write fault\n"
@@ -19,6 +19,7 @@ WBFS_INPUT = "wbfs --bare --source 0 -"
 DEMO = "demo kcore --n 1 --pairs 3 --seed 7"
 RANGE = "wbfs --bare --source 3 g"
 RANGE_LINE = b"source 3 is not below 3\n"
+DIFFER_LINE = b"sources differ at entry 0\n"
 PLACE = "kcore g"
 PLACE_LINE = b"asymmetric at place 0\n"
 
@@ -32,6 +33,10 @@ RUNS = [
     (DEMO, ">/dev/full", 6, b"", NO_WRITING),
     ("check g w", ">/dev/full", 6, b"", NO_WRITING),
     ("check g w --source 1", ">/dev/full", 6, b"", NO_WRITING),
+    ("upgrade g w", ">/dev/full", 6, b"", NO_WRITING),
+    ("upgrade g w --source 1", ">/dev/full", 6, b"", NO_WRITING),
+    ("check g named --source 1", ">/dev/full", 4, b"", DIFFER_LINE),
+    ("upgrade g named --source 1", "2>/dev/full", 4, b"", b""),
     ("kcore none --bare", ">/dev/full", 0, b"", b""),
     (RANGE, ">/dev/full", 4, b"", RANGE_LINE),
     (PLACE, ">/dev/full", 4, b"", PLACE_LINE),
@@ -45,16 +50,20 @@ RUNS = [
     ("kcore pair", ">&-", 6, b"", NO_WRITING),
     (DEMO, ">&-", 6, b"", NO_WRITING),
     ("check g w", ">&-", 6, b"", NO_WRITING),
+    ("upgrade g named", ">&-", 6, b"", NO_WRITING),
     (RANGE, "2>&-", 4, b"", b""),
     (WBFS, "2>&-", 0, DISTANCES, b""),
     (WBFS, "<&-", 0, DISTANCES, b""),
     ("wbfs g", "<&-", 0, TREE, b""),
     (DEMO, "<&-", 0, LOOPED, b""),
     ("check g w", "<&-", 0, b"yes\n", b""),
+    ("upgrade g w", "<&-", 0, TREE, b""),
     (WBFS_INPUT, "<&-", 5, b"", NO_GRAPH),
     ("kcore -", "<&-", 5, b"", NO_GRAPH),
     ("check - w", "<&-", 5, b"", NO_GRAPH),
     ("check g -", "<&-", 5, b"", NO_WITNESS),
+    ("upgrade - w", "<&-", 5, b"", NO_GRAPH),
+    ("upgrade g -", "<&-", 5, b"", NO_WITNESS),
     (WBFS, "<&- >&- 2>&-", 6, b"", b""),
     (WBFS_INPUT, "<.", 5, b"", NO_GRAPH),
     ("cover -", "<.", 5, b"", NO_GRAPH),
@@ -63,6 +72,8 @@ RUNS = [
     ("kcore -", "<pair", 0, CORES, b""),
     ("check - w", "<g", 0, b"yes\n", b""),
     ("check g -", "<w", 0, b"yes\n", b""),
+    ("upgrade - named", "<g", 0, TREE, b""),
+    ("upgrade g -", "<w", 0, TREE, b""),
 ]
 
 
@@ -97,6 +108,7 @@ CLOSED_PIPES = [
     ("cover g", "stdout", 6, NO_WRITING),
     (DEMO, "stdout", 6, NO_WRITING),
     ("check g w", "stdout", 6, NO_WRITING),
+    ("upgrade g w", "stdout", 6, NO_WRITING),
     (RANGE, "stdout", 4, RANGE_LINE),
     (RANGE, "stderr", 4, b""),
     (PLACE, "stderr", 4, b""),
@@ -151,8 +163,9 @@ def test_slow(tally, folder):
     """Texts that come byte by byte or by way of a named pipe, and a reader that ends before the text."""
     tally.compare("input byte by byte", run_in_pieces(WBFS_INPUT, GRAPH, folder), (0, DISTANCES, b""))
     tally.compare("a witness byte by byte", run_in_pieces("check g -", WITNESS, folder), (0, b"yes\n", b""))
+    tally.compare("a witness byte by byte, upgraded", run_in_pieces("upgrade g -", WITNESS, folder), (0, TREE, b""))
     for words, text, out in (("wbfs --bare fifo", GRAPH, DISTANCES), ("wbfs fifo", GRAPH, TREE), ("kcore fifo", PAIR, CORES),
-                             ("check g fifo", WITNESS, b"yes\n"), ("check fifo w", GRAPH, b"yes\n")):
+                             ("check g fifo", TREE, b"yes\n"), ("check fifo w", GRAPH, b"yes\n"), ("upgrade g fifo", WITNESS, TREE)):
         tally.compare(f"{words}, a pipe with a name", run_on_fifo(words, text, folder), (0, out, b""))
     program.write(folder, "long", b"AdjacencyGraph 200000 0" + b" 0" * 200000)
     for words, first in (("wbfs --bare --source 0 long", b"0\n-\n"), ("kcore long", b"Core"), ("cover long --bare", b"-\n-\n")):
@@ -161,7 +174,7 @@ def test_slow(tally, folder):
 
 def test(tally, folder):
     """All of them."""
-    for name, text in (("g", GRAPH), ("w", WITNESS), ("pair", PAIR), ("none", b"AdjacencyGraph 0 0")):
+    for name, text in (("g", GRAPH), ("w", WITNESS), ("named", TREE), ("pair", PAIR), ("none", b"AdjacencyGraph 0 0")):
         program.write(folder, name, text)
     test_redirected(tally, folder)
     test_slow(tally, folder)

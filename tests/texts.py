@@ -18,9 +18,20 @@ def graph_tokens(rows, weighted):
     return [header, len(rows), places, *offsets, *targets, *weights]
 
 
-def witness_tokens(word, lines):
-    """The tokens of a witness whose lines are lists of numbers, None for a dash."""
-    return [word, len(lines), *("-" if entry is None else entry for line in lines for entry in line)]
+def witness_tokens(word, lines, places=None, sources=()):
+    """The tokens of a witness whose lines are lists of numbers, None for a dash; of version 2 where the places are told."""
+    head = [word, len(lines)] if places is None else [f"{word}2", len(lines), places]
+    if places is not None and word == "Distances":
+        head += [len(sources), *sources]
+    return head + ["-" if entry is None else entry for line in lines for entry in line]
+
+
+def witness(word, lines, places, sources=()):
+    """The text of a witness as the program writes it."""
+    head = [word + "2\n", f"{len(lines)} {places}\n"]
+    if word == "Distances":
+        head.append(" ".join(map(str, [len(sources), *sources])) + "\n")
+    return "".join(head + [" ".join("-" if entry is None else str(entry) for entry in line) + "\n" for line in lines]).encode()
 
 
 def plain(tokens):

@@ -5,14 +5,12 @@ Rows are lists of (target, weight).
 import oracle
 
 
-def tree_of(rows, source):
-    """Distances with least hops and some parent that bears them out; none where the source is no vertex."""
-    if source >= len(rows):
-        return [[None, None, None] for _ in rows]
-    lines = oracle.distances_lines(rows, source)
+def tree_of(rows, sources):
+    """Distances from those sources that are vertices, with least hops and some parent that bears them out."""
+    lines = oracle.distances_lines(rows, [source for source in sources if source < len(rows)])
     for u, row in enumerate(rows):
         for v, w in row:
-            if v != source and lines[u][0] is not None and lines[u][0] + w == lines[v][0] and lines[u][1] + 1 == lines[v][1]:
+            if lines[u][0] is not None and lines[u][0] + w == lines[v][0] and lines[u][1] + 1 == lines[v][1]:
                 lines[v][2] = u
     return lines
 

@@ -26,7 +26,7 @@ def cores_reasons(rows, witness, _):
     return reason
 
 
-def distances_reasons(rows, witness, source):
+def distances_reasons(rows, witness, sources):
     """The first reason that a vertex of a witness of distances fails, as a function of the vertex."""
 
     def is_held(v):
@@ -40,13 +40,14 @@ def distances_reasons(rows, witness, source):
 
     def reason(v):
         dist, hops, parent = witness[v]
-        if v == source and (dist, hops, parent) != (0, 0, None):
+        is_source = v in sources
+        if is_source and (dist, hops, parent) != (0, 0, None):
             return b"Source"
         if dist is not None and any(witness[x][0] is None or witness[x][0] > dist + w for x, w in rows[v]):
             return b"Lowerable"
-        if v != source and dist is not None and not is_held(v):
+        if not is_source and dist is not None and not is_held(v):
             return b"Parent"
-        if v != source and dist is None and (hops is not None or parent is not None):
+        if not is_source and dist is None and (hops is not None or parent is not None):
             return b"Unreached"
         return None
 
@@ -76,9 +77,9 @@ def cover_reasons(rows, witness, _):
 REASONS = {b"Cores": cores_reasons, b"Distances": distances_reasons, b"Cover": cover_reasons}
 
 
-def verdict(rows, word, witness, source):
-    """The exit code and the line of a check whose witness has the graph's size."""
-    reason = REASONS[word](rows, witness, source)
+def verdict(rows, word, witness, sources):
+    """The exit code and the line of a check whose witness is of the graph; sources matter for distances alone."""
+    reason = REASONS[word](rows, witness, frozenset(sources))
     for v in range(len(rows)):
         failed = reason(v)
         if failed is not None:

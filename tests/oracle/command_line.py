@@ -1,15 +1,16 @@
 """The words after the program's name: which are taken, and what they ask for."""
 from collections import Counter, namedtuple
 
-from .reading import is_number, value
+from .reading import MAX_SOURCE, MAX_SOURCES, is_number, value
 
 USAGE = (
-    b"usage: julienne TASK GRAPH [WITNESS] [--source S] [--delta D] [--open B] [--workers W] [--chunk C] "
+    b"usage: julienne TASK GRAPH [WITNESS] [--source LIST] [--delta D] [--open B] [--workers W] [--chunk C] "
     b"[--bare] [--n N] [--pairs P] [--seed X]\n"
 )
-# each option with a text, and the least and the greatest number that it may have
+LIST = b"--source"
+# each option with a text, and the least and the greatest number that it may have, or each number of its list
 RANGES = {
-    b"--source": (0, 2**32 - 1),
+    LIST: (0, MAX_SOURCE),
     b"--delta": (1, 2**32 - 1),
     b"--open": (1, 65536),
     b"--workers": (1, 64),
@@ -23,17 +24,19 @@ WORK = {b"--open", b"--workers", b"--chunk"}
 SIZES = {b"--n", b"--pairs", b"--seed"}
 # the options and flags that a task allows, and those that it requires
 ALLOWED = {
-    b"wbfs": {b"--source", FLAG} | WORK,
-    b"delta": {b"--source", b"--delta", FLAG} | WORK,
+    b"wbfs": {LIST, FLAG} | WORK,
+    b"delta": {LIST, b"--delta", FLAG} | WORK,
     b"kcore": {FLAG} | WORK,
     b"cover": {FLAG} | WORK,
-    b"check": {b"--source"},
+    b"check": {LIST},
+    b"upgrade": {LIST},
 }
-REQUIRED = {b"wbfs": set(), b"delta": {b"--delta"}, b"kcore": set(), b"cover": set(), b"check": set()}
+REQUIRED = {b"wbfs": set(), b"delta": {b"--delta"}, b"kcore": set(), b"cover": set(), b"check": set(), b"upgrade": set()}
 SOLVED = (b"wbfs", b"delta", b"kcore", b"cover")
+JUDGED = (b"check", b"upgrade")
 
-# sizes are n, pairs and seed of a demo; the graph and the witness are names of files, None where there are none
-Asked = namedtuple("Asked", "task graph witness sizes source is_bare")
+# sizes are n, pairs and seed of a demo; graph and witness are names of files; named are the sources; None where there are none
+Asked = namedtuple("Asked", "task graph witness sizes named is_bare")
 
 
 def is_counted_twice(words):
@@ -83,11 +86,12 @@ def split(words):
 
 
 def is_in_range(name, text):
-    """Whether an option's text is a number of its range; the flag has no text."""
+    """Whether an option's text is a number of its range, or a list of such; the flag has no text."""
     if name == FLAG:
         return True
     least, greatest = RANGES[name]
-    return is_number(text) and least <= value(text) <= greatest
+    parts = text.split(b",") if name == LIST else [text]
+    return len(parts) <= MAX_SOURCES and all(is_number(part) and least <= value(part) <= greatest for part in parts)
 
 
 def are_allowed(given, task, is_demo):
@@ -115,10 +119,10 @@ def asked(words):
     (task, graph, *witness), given = parts
     is_demo = task == b"demo"
     solved = graph if is_demo else task
-    if solved not in (SOLVED if is_demo else ALLOWED) or (task == b"check") != bool(witness):
+    if solved not in (SOLVED if is_demo else ALLOWED) or (task in JUDGED) != bool(witness):
         return None
     if not are_allowed(given, solved, is_demo) or [graph] == witness == [b"-"]:
         return None
     sizes = tuple(value(given[name]) for name in (b"--n", b"--pairs", b"--seed")) if is_demo else None
-    source = value(given.get(b"--source", b"0"))
-    return Asked(solved, None if is_demo else graph, witness[0] if witness else None, sizes, source, FLAG in given)
+    named = sorted(set(map(value, given[LIST].split(b",")))) if LIST in given else None
+    return Asked(solved, None if is_demo else graph, witness[0] if witness else None, sizes, named, FLAG in given)

@@ -10,10 +10,10 @@ def first_asymmetric_place(rows):
     return next((place for place, (u, v) in enumerate(places) if count[u, v] > count[v, u]), None)
 
 
-def least_walks(rows, source):
-    """The least (sum of weights, number of places) of a walk from the source to each vertex, None where there is no walk."""
+def least_walks(rows, sources):
+    """The least (sum of weights, number of places) of a walk from some source to each vertex, None where there is no walk."""
     least = [None] * len(rows)
-    queue = [(0, 0, source)]
+    queue = [(0, 0, source) for source in sources]
     while queue:
         distance, hops, u = heapq.heappop(queue)
         if least[u] is not None:
@@ -25,9 +25,9 @@ def least_walks(rows, source):
     return least
 
 
-def distances_lines(rows, source):
-    """Distance, hops and parent of each vertex, None for a dash."""
-    least = least_walks(rows, source)
+def distances_lines(rows, sources):
+    """Distance to the nearest source, hops and parent of each vertex, None for a dash."""
+    least = least_walks(rows, sources)
     parents = [None] * len(rows)
     for u in reversed(range(len(rows))):
         for v, weight in rows[u]:

@@ -1,9 +1,14 @@
 """The files: tokens, numbers, graphs and witnesses, each with its first fault."""
 import re
+from collections import namedtuple
 
 MAX_N, MAX_M, MAX_W = 2**24, 2**27, 2**32 - 1
-GREATEST = 2**64 - 2        # the greatest number of a witness
+MAX_SOURCES, MAX_SOURCE = 1024, 2**32 - 1
+GREATEST = 2**64 - 2        # the greatest number of a column
 COLUMNS = {b"Cores": 2, b"Distances": 3, b"Cover": 2}
+
+# word is that of version 1; places and sources are None where the text names none; the lines are numbers, None for a dash
+Witness = namedtuple("Witness", "word places sources lines")
 
 
 class Fault(Exception):
@@ -124,23 +129,46 @@ def read_graph(text):
     return [list(zip(targets[a:b], weights[a:b])) for a, b in zip(offsets, ends)]
 
 
-def read_bounded(tokens, bound, has_dash):
-    """The number of a witness that is the next token, None for a dash where one may stand."""
+def read_between(tokens, least, greatest):
+    """The number of a witness that is the next token."""
     token = tokens.take()
-    if token == b"-" and has_dash:
-        return None
-    if not is_number(token) or value(token) > bound:
+    if not is_number(token) or not least <= value(token) <= greatest:
         raise tokens.fault("Number")
     return value(token)
 
 
+def read_entry(tokens, has_dash):
+    """The entry of a column that is the next token, None for a dash where one may stand."""
+    token = tokens.take()
+    if token == b"-" and has_dash:
+        return None
+    if not is_number(token) or value(token) > GREATEST:
+        raise tokens.fault("Number")
+    return value(token)
+
+
+def read_sources(tokens):
+    """The sources that a witness names."""
+    sources = []
+    for _ in range(read_between(tokens, 1, MAX_SOURCES)):
+        source = read_between(tokens, 0, MAX_SOURCE)
+        if sources and source <= sources[-1]:
+            raise tokens.fault("SourceOrder")
+        sources.append(source)
+    return sources
+
+
 def read_witness(text):
-    """The word of a witness and its lines of numbers, None for a dash, or its first fault."""
+    """The witness that a text is, or its first fault."""
     tokens = Tokens(text)
-    word = tokens.take()
+    head = tokens.take()
+    is_newer = head.endswith(b"2")
+    word = head[:-1] if is_newer else head
     if word not in COLUMNS:
         raise tokens.fault("Header")
-    n = read_bounded(tokens, MAX_N, False)
-    lines = [[read_bounded(tokens, GREATEST, word != b"Cores") for _ in range(COLUMNS[word])] for _ in range(n)]
+    n = read_between(tokens, 0, MAX_N)
+    places = read_between(tokens, 0, MAX_M) if is_newer else None
+    sources = read_sources(tokens) if is_newer and word == b"Distances" else None
+    lines = [[read_entry(tokens, word != b"Cores") for _ in range(COLUMNS[word])] for _ in range(n)]
     tokens.end()
-    return word, lines
+    return Witness(word, places, sources, lines)
