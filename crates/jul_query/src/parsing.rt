@@ -155,7 +155,8 @@ fn read_files<'a>(
 ) -> Option<(Input<'a>, Work<'a>)>
     requires { AreSourcesOf (split_by line.now) sources.items }
 
-    ensures asked { option_map asked_of result ≡ asked_judgement (purpose_of purpose) graph.entry.now (split_by line.now) witness.entry.now }
+    ensures asked { option_map asked_of result ≡
+        asked_judgement (purpose_of purpose) graph.entry.now (split_by line.now) witness.entry.now }
     ensures width { IfSome result (λ r. HasWidthOf (split_by line.now) r.1) }
     ensures ranges { IfSome result (λ r. IsInputInRange r.0 × IsWorkInRange r.1) }
 {
@@ -182,7 +183,8 @@ fn read_check<'a>(
 ) -> Option<(Input<'a>, Work<'a>)>
     requires { AreSourcesOf (split_by line.now) sources.items }
 
-    ensures asked { option_map asked_of result ≡ asked_check (purpose_of purpose) graph.entry.now (split_by line.now) }
+    ensures asked { option_map asked_of result ≡
+        asked_check (purpose_of purpose) graph.entry.now (split_by line.now) }
     ensures width { IfSome result (λ r. HasWidthOf (split_by line.now) r.1) }
     ensures ranges { IfSome result (λ r. IsInputInRange r.0 × IsWorkInRange r.1) }
 {
