@@ -17,7 +17,7 @@ pub type Deque = Worker<u32, Global, PassView, Dealt>;
 pub type Thief = Stealer<u32, Global, PassView, Dealt>;
 
 /// So many chunks of each range are pushed before any worker starts, so that one that starts early finds some to steal.
-const HEAD_START: u32 = 64;
+const HEAD_START: u32 = 8;
 
 /// A worker's own deque, and what it has yet to push there: the chunks from `next` up to but not including `end`.
 #[derive(Drop)]

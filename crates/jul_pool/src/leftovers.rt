@@ -5,21 +5,20 @@ ghost use Rattle.jul_pool.specs.Workers.{HasWorked};
 
 use crate::jobs::Job;
 use crate::rounds::{Round, Worked};
-use crate::settling::chunks_of;
 use crate::workers::take_and_run;
 use jul_base::{Gate, Share};
 use std::alloc::{AllocError, Global};
 
-/// For each chunk whether it stands in the list.
-fn marked(alloc: Global, chunks: u32, list: &[u32]) -> Result<Vec<bool>, AllocError>
-    requires { All (λ chunk. chunk < chunks) list.now }
+/// For each chunk whether it has a result.
+fn marked<X>(alloc: Global, chunks: u32, done: &[(u32, X)]) -> Result<Vec<bool>, AllocError>
+    requires { All (λ p. p.0 < chunks) done.now }
 
     ensures len { IfOk result (λ v. length v.items ≡ chunks) }
     ensures marks { IfOk result (λ v. (chunk : ℕ) → chunk < chunks →
-        slice_index_or v.items chunk false ≡ nat_lt 0 (times chunk list.now)) }
+        slice_index_or v.items chunk false ≡ nat_lt 0 (times chunk (map (λ p. p.0) done.now))) }
 {
     let mut marks = vec![in alloc; false; chunks as usize]?;
-    for chunk in list {
+    for (chunk, _) in done {
         marks[*chunk as usize] = true;
     }
     Ok(marks)
@@ -44,8 +43,7 @@ pub fn run_rest<J: Job, G: Gate>(
         0 < times chunk lead.new.seat.me.0.chunks) }
 {
     let chunks = round.board.chunks;
-    let list = chunks_of(round.alloc, lead.done.as_slice())?;
-    let has_result = marked(round.alloc, chunks, list.as_slice())?;
+    let has_result = marked(round.alloc, chunks, lead.done.as_slice())?;
     for chunk in 0..chunks {
         if has_result[chunk as usize] {
             continue;

@@ -3,11 +3,11 @@ use Rattle.std.proofs.lemmas.List.{get_or_read}
 use Rattle.jul_base.specs.Times.{times}
 use Rattle.jul_pool.specs.Workers.{CanWork}
 use Rattle.jul_pool.proofs.WorkLaws.{worked_none, worked_then, can_still_work}
-use Rattle.jul_pool.proofs.LeftoverLaws.{left_none, left_had, left_took, firsts_small, none_there, some_there}
+use Rattle.jul_pool.proofs.LeftoverLaws.{left_none, left_had, left_took, none_there, some_there}
 use Rattle.jul_pool.proofs.leftovers.run_rest.Goals as goal
 
 pub marked-requires : goal.marked-requires
-marked-requires g c = subst (All (λ x. x < c.args.round.now.board.now.chunks)) (sym (c.as_slice-2.ensures.value ∙ (c.in_ok-list.ensures ∙ ap (map (λ p. p.0)) c.as_slice.ensures.value))) (firsts_small c.args.round.now.board.now.chunks c.args.lead.now.done.items c.requires.small)
+marked-requires g c = subst (All (λ p. p.0 < c.args.round.now.board.now.chunks)) (sym c.as_slice.ensures.value) c.requires.small
 
 pub loop-chunk-init : goal.loop-chunk-init
 loop-chunk-init g c = let share = g.J.Token.Share in record {
@@ -18,8 +18,8 @@ loop-chunk-init g c = let share = g.J.Token.Share in record {
 pub loop-chunk-preserved-then-index : goal.loop-chunk-preserved-then-index
 loop-chunk-preserved-then-index g c =
     let was = c.loop-chunk.invariant in
-    let list : c.as_slice-2.result.now ≡ c.args.lead.now.seat.me.0.chunks = c.as_slice-2.ensures.value ∙ (c.in_ok-list.ensures ∙ (ap (map (λ p. p.0)) c.as_slice.ensures.value ∙ sym c.requires.listed)) in
-    let read : c.index.result.now ≡ nat_lt 0 (times c.loop-chunk.chunk c.as_slice-2.result.now) = get_or_read c.in_ok-has_result.has_result.items c.loop-chunk.chunk _ (omega (arith, c.in_ok-has_result.ensures.len)) c.index.ensures false ∙ c.in_ok-has_result.ensures.marks c.loop-chunk.chunk (omega arith) in
+    let list : map (λ p. p.0) c.as_slice.result.now ≡ c.args.lead.now.seat.me.0.chunks = ap (map (λ p. p.0)) c.as_slice.ensures.value ∙ sym c.requires.listed in
+    let read : c.index.result.now ≡ nat_lt 0 (times c.loop-chunk.chunk (map (λ p. p.0) c.as_slice.result.now)) = get_or_read c.in_ok-has_result.has_result.items c.loop-chunk.chunk _ (omega (arith, c.in_ok-has_result.ensures.len)) c.index.ensures false ∙ c.in_ok-has_result.ensures.marks c.loop-chunk.chunk (omega arith) in
     record {
       worked = was.worked;
       left = left_had c.loop-chunk.chunk _ _ was.left (subst (λ l. 0 < times c.loop-chunk.chunk l) list (some_there _ (sym c.if-index.true ∙ read)));
@@ -30,8 +30,8 @@ loop-chunk-preserved g c =
     let share = g.J.Token.Share in
     let was = c.loop-chunk.invariant in
     let made = c.in_ok-take_and_run.ensures in
-    let list : c.as_slice-2.result.now ≡ c.args.lead.now.seat.me.0.chunks = c.as_slice-2.ensures.value ∙ (c.in_ok-list.ensures ∙ (ap (map (λ p. p.0)) c.as_slice.ensures.value ∙ sym c.requires.listed)) in
-    let read : c.index.result.now ≡ nat_lt 0 (times c.loop-chunk.chunk c.as_slice-2.result.now) = get_or_read c.in_ok-has_result.has_result.items c.loop-chunk.chunk _ (omega (arith, c.in_ok-has_result.ensures.len)) c.index.ensures false ∙ c.in_ok-has_result.ensures.marks c.loop-chunk.chunk (omega arith) in
+    let list : map (λ p. p.0) c.as_slice.result.now ≡ c.args.lead.now.seat.me.0.chunks = ap (map (λ p. p.0)) c.as_slice.ensures.value ∙ sym c.requires.listed in
+    let read : c.index.result.now ≡ nat_lt 0 (times c.loop-chunk.chunk (map (λ p. p.0) c.as_slice.result.now)) = get_or_read c.in_ok-has_result.has_result.items c.loop-chunk.chunk _ (omega (arith, c.in_ok-has_result.ensures.len)) c.index.ensures false ∙ c.in_ok-has_result.ensures.marks c.loop-chunk.chunk (omega arith) in
     let fresh : times c.loop-chunk.chunk c.loop-chunk.lead.seat.me.0.chunks ≡ 0 = was.left.above c.loop-chunk.chunk (omega arith) ∙ (ap (times c.loop-chunk.chunk) (sym list) ∙ none_there _ (sym c.if-index.false ∙ read)) in
     record {
       worked = worked_then share.log share.home share.is_root share.out (g.J.Job.gives c.args.round.now.job.now) c.args.round.now.board.now.chunks _ c.loop-chunk.lead c.take_and_run.new.me was.worked made.worked;
