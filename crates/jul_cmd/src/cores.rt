@@ -1,6 +1,6 @@
 //! The task `kcore`: the coreness and the level of each vertex of a symmetric graph.
-ghost use Rattle.std.specs.Prelude.{IfOk, IfErr, OnOk, IsTrue};
-ghost use Rattle.jul_base.specs.Symmetry.{IsSymmetric};
+ghost use Rattle.std.specs.Prelude.{IfOk, IfErr, OnOk, IsTrue, MatchOption};
+ghost use Rattle.jul_base.specs.Symmetry.{IsSymmetric, IsFirstAsymmetricPlace};
 ghost use Rattle.jul_witness.specs.Lawful.{AreLawfulCores};
 ghost use Rattle.jul_witness.specs.declared.witnesses.Columns.TheVariants as results;
 ghost use Rattle.jul_query.specs.Queries.{cores};
@@ -13,9 +13,10 @@ use crate::statuses::Status;
 use jul_base::{Cores, Gate, MAX_N};
 use jul_core::{cores_of, is_found_symmetric};
 use jul_rows::Rows;
+use std::alloc::AllocError;
 use std::thread::Threads;
 
-// Whether the graph is symmetric, or the refusal of its first asymmetric place. Several workers first try to find it symmetric.
+// Whether the graph is symmetric, or the refusal of its first asymmetric place.
 fn check_symmetry<R: Threads + Sync, G: Gate>(
     resources: &Resources<'_, '_, R, G>,
     rows: &Rows,
@@ -30,15 +31,27 @@ fn check_symmetry<R: Threads + Sync, G: Gate>(
     if is_symmetric {
         return Ok(());
     }
-    if resources.team.workers > 1
-        && is_found_symmetric(resources.rt, resources.alloc, &resources.team, rows)?
-    {
-        return Ok(());
-    }
-    match rows.first_asymmetry()? {
+    match first_asymmetry(resources, rows)? {
         None => Ok(()),
         Some(place) => Err(Status::Asymmetric { place }),
     }
+}
+
+// The first asymmetric place. Several workers first try to find the graph symmetric.
+fn first_asymmetry<R: Threads + Sync, G: Gate>(
+    resources: &Resources<'_, '_, R, G>,
+    rows: &Rows,
+) -> Result<Option<u32>, AllocError>
+    ensures { IfOk result (λ found.
+        MatchOption found (IsSymmetric rows.now) (IsFirstAsymmetricPlace rows.now)) }
+{
+    if resources.team.workers <= 1 {
+        return rows.first_asymmetry();
+    }
+    if is_found_symmetric(resources.rt, resources.alloc, &resources.team, rows)? {
+        return Ok(None);
+    }
+    rows.first_asymmetry_by_tallies()
 }
 
 /// The coreness and the level of each vertex, or why there are none. A graph that is known to be symmetric isn't tested.

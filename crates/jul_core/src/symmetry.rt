@@ -1,8 +1,8 @@
 //! Whether a graph is found symmetric, by several workers.
 //!
-//! The vertices are cut into windows, one for each worker, which compares the vertices of its window with the lesser ones.
-//! A window reads the rows before its end alone, and a vertex has the more lesser ones the greater it is, so the first window
-//! is the widest.
+//! The vertices are cut into windows, one for each worker, which compares the vertices of its window with the lesser ones,
+//! and first sorts the rows of its window where need be. A window reads the rows before its end alone, and a vertex has the
+//! more lesser ones the greater it is, so the first window is the widest.
 ghost use Rattle.std.specs.Prelude.{◌≡◌, ◌+◌, ◌<◌, ◌≤◌, length, slice_index, All, IfOk, IsTrue};
 ghost use Rattle.jul_base.specs.declared.limits.TheConstants.{MAX_N};
 ghost use Rattle.jul_pool.specs.declared.teams.TheConstants.{MAX_WORKERS};
@@ -43,10 +43,11 @@ impl<'a, 'b> Job for WindowJob<'a, 'b> {
     }
 }
 
-/// Whether the graph was found symmetric. A yes implies that it is. A graph whose rows are sorted is found symmetric where it
-/// is so; of another a no says nothing, and `first_asymmetry` of `Rows` decides.
+/// Whether the graph was found symmetric. A yes implies that it is. A symmetric graph is found so; that a no implies that it
+/// isn't is not claimed, and `first_asymmetry_by_tallies` of `Rows` decides.
 ///
-/// Each worker that the places are worth takes memory for a number a vertex of its window.
+/// Each worker that the places are worth takes memory for a number a vertex of its window, and where rows of the window
+/// aren't sorted for a number a place of it.
 pub fn is_found_symmetric<R: Threads + Sync, G: Gate>(
     rt: &R,
     alloc: Global,
@@ -104,12 +105,14 @@ fn bounds_of(alloc: Global, n: u32, windows: u32) -> Result<Vec<u32>, AllocError
     Ok(bounds)
 }
 
-/// The vertex below which `i` of `windows` parts of all pairs of vertices lie.
+/// Where window `i` of `windows` ends: halfway between the end of an even share of the vertices, whose rows are to be sorted,
+/// and that of an even share of their pairs, which are to be compared.
 fn even_bound(n: u32, i: u32, windows: u32) -> u32
     requires vertices { n ≤ MAX_N }
     requires some { 1 ≤ windows }
     requires few { i ≤ MAX_WORKERS }
 {
+    let share = u64::from(n) * u64::from(i) / u64::from(windows);
     let pairs = u64::from(n) * u64::from(n) * u64::from(i) / u64::from(windows);
-    pairs.isqrt() as u32
+    ((share + pairs.isqrt()) / 2) as u32
 }

@@ -20,10 +20,13 @@ use std::sync::atomic::{AtomicU64, Ordering};
 use std::test::Fail;
 use std::thread::Threads;
 
-/// The rows of a symmetric graph without weights. Lists that make no such graph end the test.
-fn rows_of(rt: &impl Abort, alloc: Global, offsets: &[u32], targets: &[u32]) -> Result<Rows, Fail>
-    ensures { IfOk result (λ rows. IsSymmetric rows) }
-{
+/// The rows of a graph without weights. Lists that make no graph end the test.
+fn graph_of(
+    rt: &impl Abort,
+    alloc: Global,
+    offsets: &[u32],
+    targets: &[u32],
+) -> Result<Rows, Fail> {
     let graph = RawGraph {
         weighted: false,
         offsets: Ids::from_vec(Vec::from_slice(alloc, offsets)?),
@@ -31,7 +34,14 @@ fn rows_of(rt: &impl Abort, alloc: Global, offsets: &[u32], targets: &[u32]) -> 
         weights: Ids::from_vec(Vec::new(alloc)),
     };
     assert!(rt; graph.is_lawful());
-    let rows = Rows::of(graph);
+    Ok(Rows::of(graph))
+}
+
+/// The same where the graph is to be symmetric, which it must be.
+fn rows_of(rt: &impl Abort, alloc: Global, offsets: &[u32], targets: &[u32]) -> Result<Rows, Fail>
+    ensures { IfOk result (λ rows. IsSymmetric rows) }
+{
+    let rows = graph_of(rt, alloc, offsets, targets)?;
     assert!(rt; rows.first_asymmetry()?.is_none());
     Ok(rows)
 }
@@ -157,21 +167,63 @@ fn a_vertex_that_hangs_on_a_triangle_goes_first(rt: HostRuntime) -> Result<(), F
     Ok(())
 }
 
+/// Whether workers find the graph symmetric, or not, as wanted.
+fn found_is<R: Threads + Sync>(
+    rt: &R,
+    alloc: Global,
+    rows: &Rows,
+    workers: u32,
+    symmetric: bool,
+) -> Result<bool, Fail>
+    requires workers { (1 ≤ workers) × (workers ≤ 64) }
+{
+    let team = Team {
+        workers,
+        chunk: 1,
+        gate: &OpenGate,
+    };
+    Ok(
+        are_windows_mirrored(rt, alloc, &team, rows)? == symmetric
+            && is_found_symmetric(rt, alloc, &team, rows)? == symmetric,
+    )
+}
+
 #[test]
 fn a_symmetric_graph_is_found_symmetric_in_windows(rt: HostRuntime) -> Result<(), Fail> {
     let rows = triangles(&rt, rt.alloc())?;
     for workers in [1u32, 2, 3, 7] {
-        let team = Team {
-            workers,
-            chunk: 1,
-            gate: &OpenGate,
-        };
         assert!(rt;
-            are_windows_mirrored(&rt, rt.alloc(), &team, &rows)?,
+            found_is(&rt, rt.alloc(), &rows, workers, true)?,
+            "{workers} workers"
+        );
+    }
+    Ok(())
+}
+
+#[test]
+fn rows_in_any_order_are_found_symmetric_in_windows(rt: HostRuntime) -> Result<(), Fail> {
+    // Two triangles and an edge between 2 and 3.
+    let offsets = [0u32, 2, 4, 7, 10, 12];
+    let symmetric = graph_of(
+        &rt,
+        rt.alloc(),
+        offsets.as_slice(),
+        &[2, 1, 2, 0, 3, 1, 0, 5, 2, 4, 3, 5, 4, 3],
+    )?;
+    // The row of 3 has 4 twice and lacks 5.
+    let asymmetric = graph_of(
+        &rt,
+        rt.alloc(),
+        offsets.as_slice(),
+        &[2, 1, 2, 0, 3, 1, 0, 4, 2, 4, 3, 5, 4, 3],
+    )?;
+    for workers in [1u32, 3] {
+        assert!(rt;
+            found_is(&rt, rt.alloc(), &symmetric, workers, true)?,
             "{workers} workers"
         );
         assert!(rt;
-            is_found_symmetric(&rt, rt.alloc(), &team, &rows)?,
+            found_is(&rt, rt.alloc(), &asymmetric, workers, false)?,
             "{workers} workers"
         );
     }

@@ -4,17 +4,17 @@ use Rattle.std.specs.Prelude.{slice_range, All}
 use Rattle.std.specs.List.{count_by, sum_by}
 use Rattle.std.specs.List.Sorted.{IsPermutation}
 use Rattle.std.proofs.lemmas.Bool.{cases_eq, cases_lt, cases_order, eq-eqb, ne_eqb}
-use Rattle.std.proofs.lemmas.List.{get_or-set_same, get_or-set_other, length-set, length-append, take_all, take-append-le, drop-append-le, drop_all}
-use Rattle.std.proofs.lemmas.List.Edits.{between_more}
+use Rattle.std.proofs.lemmas.List.{get_or-set_same, get_or-set_other, get_or_append_left, get_or-append_right, length-set, length-append, take_all, take-append-le, take-take, drop-append-le, drop-drop, drop-take, drop_all}
+use Rattle.std.proofs.lemmas.List.Edits.{between_more, length-between}
 use Rattle.std.proofs.lemmas.List.Sums.{sum_by-append, sum_by-cons, count_by_more_yes, count_by_more_no}
 use Rattle.std.proofs.lemmas.List.Sorted.{sum_by-IsPermutation}
 use Rattle.std.proofs.lemmas.Slice.{between_is}
 use Rattle.jul_base.specs.declared.graphs.RawGraph.{RawGraph}
-use Rattle.jul_base.specs.Graph.{vertices, places, row, row_start, row_end, count, IsLawful}
+use Rattle.jul_base.specs.Graph.{vertices, row, row_start, row_end, count, IsLawful}
 use Rattle.jul_base.specs.Symmetry.{IsSymmetric}
-use Rattle.jul_base.proofs.GraphLaws.{row_end-next, row_end-last, row_start-le, row_end-le, row_start-le-row_end}
+use Rattle.jul_base.proofs.GraphLaws.{row_end-next, row_end-last, row_end-le, row_start-le-row_end}
 use Rattle.jul_base.proofs.RowLaws.{row_end-le-row_start, length-row}
-use Rattle.jul_rows.specs.Mirrors.{count_in, IsRearranged, IsRearrangedTo, HasTaken, HaveTaken, AreUsedUp, AreMirrored}
+use Rattle.jul_rows.specs.Mirrors.{count_in, start_in, end_in, IsRearranged, AreStarts, HasTaken, HaveTaken, AreUsedUp, AreMirrored}
 
 -- ---- parts of a list
 
@@ -141,15 +141,15 @@ used_none g from mirror next = record {
   above = λ k before. absurd (omega (arith, before));
 }
 
-pub used_more : (g : RawGraph) (from : ℕ) (mirror next : List ℕ) (k : ℕ) → AreUsedUp g from mirror next k → get_or next k 0 ≤ row_end g (from + k) →
-    All (λ x. from + k ≤ x) (slice_range mirror (get_or next k 0) (row_end g (from + k))) → AreUsedUp g from mirror next (k + 1)
+pub used_more : (g : RawGraph) (from : ℕ) (mirror next : List ℕ) (k : ℕ) → AreUsedUp g from mirror next k → get_or next k 0 ≤ end_in g from (from + k) →
+    All (λ x. from + k ≤ x) (slice_range mirror (get_or next k 0) (end_in g from (from + k))) → AreUsedUp g from mirror next (k + 1)
 used_more g from mirror next k h stay above = record {
   stay = λ j before. elim (cases_eq k j) [
-    | inl same ↦ let P : ℕ → Type 0 = λ j. get_or next j 0 ≤ row_end g (from + j) in subst P same stay
+    | inl same ↦ let P : ℕ → Type 0 = λ j. get_or next j 0 ≤ end_in g from (from + j) in subst P same stay
     | inr other ↦ h.stay j (omega (arith, before, other))
   ];
   above = λ j before. elim (cases_eq k j) [
-    | inl same ↦ let P : ℕ → Type 0 = λ j. All (λ x. from + j ≤ x) (slice_range mirror (get_or next j 0) (row_end g (from + j))) in subst P same above
+    | inl same ↦ let P : ℕ → Type 0 = λ j. All (λ x. from + j ≤ x) (slice_range mirror (get_or next j 0) (end_in g from (from + j))) in subst P same above
     | inr other ↦ h.above j (omega (arith, before, other))
   ];
 }
@@ -167,30 +167,50 @@ none_below w u (x ∷ xs) less above =
     )
 
 module _ (g : RawGraph) (lawful : IsLawful g) where
-  start_in : (w : ℕ) → w < vertices g → row_start g w ≤ places g
-  start_in w lt = row_start-le g lawful w lt
+  -- ---- the rows of a window
 
-  pub have_none : (from to : ℕ) (mirror next : List ℕ) → length mirror ≡ places g → from + length next ≡ to → to ≤ vertices g →
-      ((k : ℕ) → k < length next → get_or next k 0 ≡ row_start g (from + k)) → HaveTaken g from to mirror 0 next
-  have_none from to mirror next size many inside starts = record {
-    size = many;
-    inside = inside;
-    starts = λ k lt. omega (arith, starts k lt);
-    within = λ k lt. omega (arith, start_in (from + k) (omega (arith, lt, many, inside)), size, starts k lt);
+  pub start_rises : (from v : ℕ) → from ≤ v → v < vertices g → row_start g from ≤ row_start g v
+  start_rises from v le lt = elim (cases_eq from v) [
+    | inl same ↦ omega (arith, ap (row_start g) same)
+    | inr other ↦ omega (
+      arith,
+      row_start-le-row_end g lawful from (omega (arith, le, lt)),
+      row_end-le-row_start g lawful from v (omega (arith, le, other)) lt,
+    )
+  ]
+
+  pub start_before_end : (from v : ℕ) → from ≤ v → v < vertices g → row_start g from ≤ row_end g v
+  start_before_end from v le lt = omega (arith, start_rises from v le lt, row_start-le-row_end g lawful v lt)
+
+  pub end_in_mirror : (from to : ℕ) (mirror : List ℕ) → IsRearranged g from to mirror → (v : ℕ) → v < to → end_in g from v ≤ length mirror
+  end_in_mirror from to mirror are v lt = elim (cases_lt to (vertices g)) [
+    | inl more ↦ omega (arith, row_end-le-row_start g lawful v to lt more, are.size more)
+    | inr past ↦ omega (arith, row_end-le g lawful v, are.whole past)
+  ]
+
+  start_in_mirror : (from to : ℕ) (mirror : List ℕ) → IsRearranged g from to mirror → (v : ℕ) → v < to → v < vertices g → start_in g from v ≤ length mirror
+  start_in_mirror from to mirror are v lt v_lt = omega (arith, end_in_mirror from to mirror are v lt, row_start-le-row_end g lawful v v_lt)
+
+  -- ---- entries taken
+
+  pub have_none : (from to : ℕ) (mirror next : List ℕ) → IsRearranged g from to mirror → to ≤ vertices g → AreStarts g from to next → HaveTaken g from to mirror 0 next
+  have_none from to mirror next are inside h = record {
+    size = h.size;
+    starts = λ k lt. omega (arith, h.each k lt);
+    within = λ k lt.
+        omega (arith, start_in_mirror from to mirror are (from + k) (omega (arith, lt, h.size)) (omega (arith, lt, h.size, inside)), h.each k lt);
     taken = λ u k lt _ _. absurd (omega (arith, lt));
-    later = λ u k _ lt. ap (λ e. count_in mirror (row_start g (from + k)) e u) (starts k lt) ∙ count_in-none mirror (row_start g (from + k)) u;
+    later = λ u k _ lt. ap (λ e. count_in mirror (start_in g from (from + k)) e u) (h.each k lt) ∙ count_in-none mirror (start_in g from (from + k)) u;
   }
 
-  pub have_more : (from to : ℕ) (mirror : List ℕ) (u : ℕ) (next next' : List ℕ) → HaveTaken g from to mirror u next → u < vertices g → HasTaken u from (row g u) mirror next next' →
-      HaveTaken g from to mirror (u + 1) next'
-  have_more from to mirror u next next' h u_lt one = record {
+  pub have_more : (from to : ℕ) (mirror : List ℕ) (u : ℕ) (next next' : List ℕ) → HaveTaken g from to mirror u next → HasTaken u from (row g u) mirror next next' → HaveTaken g from to mirror (u + 1) next'
+  have_more from to mirror u next next' h one = record {
     size = omega (arith, one.size, h.size);
-    inside = h.inside;
     starts = λ k lt. omega (arith, h.starts k (at k lt), one.grows k (at k lt));
     within = λ k lt. one.within k (at k lt);
     taken = λ v k v_lt above lt. elim (cases_eq v u) [
       | inl same ↦
-          let P : ℕ → Type 0 = λ v. count g v (from + k) ≡ count_in mirror (row_start g (from + k)) (get_or next' k 0) v in
+          let P : ℕ → Type 0 = λ v. count g v (from + k) ≡ count_in mirror (start_in g from (from + k)) (get_or next' k 0) v in
           subst P (sym same) (omega (arith, two k u lt, h.later u k (omega arith) (at k lt), one.taken k (at k lt) (omega (arith, above, same))))
       | inr other ↦ omega (arith, two k v lt, h.taken v k (omega (arith, v_lt, other)) above (at k lt), one.others k v (at k lt) other)
     ];
@@ -201,40 +221,80 @@ module _ (g : RawGraph) (lawful : IsLawful g) where
     at k lt = omega (arith, lt, one.size)
 
     two : (k x : ℕ) → k < length next' →
-        count_in mirror (row_start g (from + k)) (get_or next' k 0) x ≡ count_in mirror (row_start g (from + k)) (get_or next k 0) x + count_in mirror (get_or next k 0) (get_or next' k 0) x
-    two k x lt = in_two mirror (row_start g (from + k)) (get_or next k 0) (get_or next' k 0) x (h.starts k (at k lt)) (one.grows k (at k lt)) (one.within k (at k lt))
+        count_in mirror (start_in g from (from + k)) (get_or next' k 0) x ≡ count_in mirror (start_in g from (from + k)) (get_or next k 0) x + count_in mirror (get_or next k 0) (get_or next' k 0) x
+    two k x lt = in_two mirror (start_in g from (from + k)) (get_or next k 0) (get_or next' k 0) x (h.starts k (at k lt)) (one.grows k (at k lt)) (one.within k (at k lt))
 
   -- entries both ways, of a lesser vertex and one of the window
-  at_mark : (from to : ℕ) (mirror next : List ℕ) → IsRearranged g mirror → HaveTaken g from to mirror to next → AreUsedUp g from mirror next (length next) →
+  at_mark : (from to : ℕ) (mirror next : List ℕ) → to ≤ vertices g → IsRearranged g from to mirror → HaveTaken g from to mirror to next → AreUsedUp g from mirror next (length next) →
       (u k : ℕ) → u < from + k → k < length next → count g u (from + k) ≡ count g (from + k) u
-  at_mark from to mirror next are h used u k less lt = omega (
-    arith,
-    h.taken u k (omega (arith, less, lt, h.size)) less lt,
-    in_two mirror (row_start g (from + k)) (get_or next k 0) (row_end g (from + k)) u (h.starts k lt) (used.stay k lt) (omega (arith, row_end-le g lawful (from + k), are.size)),
-    none_below (from + k) u (slice_range mirror (get_or next k 0) (row_end g (from + k))) less (used.above k lt),
-    are.counts (from + k) u (omega (arith, lt, h.size, h.inside)),
-  )
+  at_mark from to mirror next inside are h used u k less lt =
+      let in_window : from + k < to = omega (arith, lt, h.size) in
+      omega (
+        arith,
+        h.taken u k (omega (arith, less, in_window)) less lt,
+        in_two mirror (start_in g from (from + k)) (get_or next k 0) (end_in g from (from + k)) u (h.starts k lt) (used.stay k lt) (end_in_mirror from to mirror are (from + k) in_window),
+        none_below (from + k) u (slice_range mirror (get_or next k 0) (end_in g from (from + k))) less (used.above k lt),
+        are.counts (from + k) u (omega arith) in_window (omega (arith, in_window, inside)),
+      )
 
-  pub mirrored : (from to : ℕ) (mirror next : List ℕ) → IsRearranged g mirror → HaveTaken g from to mirror to next → AreUsedUp g from mirror next (length next) → AreMirrored g from to
-  mirrored from to mirror next are h used u w less ge lt w_lt =
+  pub mirrored : (from to : ℕ) (mirror next : List ℕ) → to ≤ vertices g → IsRearranged g from to mirror → HaveTaken g from to mirror to next → AreUsedUp g from mirror next (length next) → AreMirrored g from to
+  mirrored from to mirror next inside are h used u w less ge lt w_lt =
       let same : from + (w - from) ≡ w = omega (arith, ge) in
       let P : ℕ → Type 0 = λ w. count g u w ≡ count g w u in
-      subst P same (at_mark from to mirror next are h used u (w - from) (omega (arith, less, same)) (omega (arith, lt, ge, h.size)))
+      subst P same (at_mark from to mirror next inside are h used u (w - from) (omega (arith, less, same)) (omega (arith, lt, ge, h.size)))
+
+  pub starts_none : (from : ℕ) → AreStarts g from from []
+  starts_none from = record { size = omega arith; each = λ k lt. absurd (omega (arith, lt)) }
+
+  pub starts_more : (from v : ℕ) (starts : List ℕ) → AreStarts g from v starts → AreStarts g from (v + 1) (starts ++ (start_in g from v ∷ []))
+  starts_more from v starts h = record {
+    size = omega (arith, length-append starts (start_in g from v ∷ []), h.size);
+    each = λ k lt. elim (cases_eq k (length starts)) [
+      | inl same ↦
+          let none : k - length starts ≡ 0 = omega (arith, same) in
+          let here : from + k ≡ v = omega (arith, same, h.size) in
+          get_or-append_right starts (start_in g from v ∷ []) (length starts) k 0 refl (omega (arith, same)) ∙ ap (λ j. get_or (start_in g from v ∷ []) j 0) none ∙ ap (start_in g from) (sym here)
+      | inr other ↦
+          let before : k < length starts = omega (arith, lt, other, length-append starts (start_in g from v ∷ [])) in
+          get_or_append_left starts (start_in g from v ∷ []) 0 k before ∙ h.each k before
+    ];
+  }
 
   -- ---- sorted rows
 
-  pub own_rows : IsRearranged g g.targets
-  own_rows = record { size = refl; counts = λ v x lt. refl }
+  -- a part of a part
+  part_of_part : (xs : List ℕ) (a b i j : ℕ) → a ≤ i → i ≤ j → j ≤ b → slice_range (slice_range xs a b) (i - a) (j - a) ≡ slice_range xs i j
+  part_of_part xs a b i j from rises to =
+      let long : b - a ≡ (i - a) + (b - i) = omega (arith, from, rises, to) in
+      let many : (j - a) - (i - a) ≡ j - i = omega (arith, from, rises) in
+      let at : a + (i - a) ≡ i = omega (arith, from) in
+      let dropped : drop (i - a) (slice_range xs a b) ≡ take (b - i) (drop i xs) =
+      ap (λ k. drop (i - a) (take k (drop a xs))) long ∙ drop-take (i - a) (b - i) (drop a xs) ∙ ap (take (b - i)) (drop-drop (i - a) a xs ∙ ap (λ k. drop k xs) at) in
+      ap (λ k. take k (drop (i - a) (slice_range xs a b))) many ∙ ap (take (j - i)) dropped ∙ take-take (j - i) (b - i) (drop i xs) (omega (arith, to))
 
-  pub rearranged_none : IsRearrangedTo g 0 []
-  rearranged_none = record {
-    size = λ some. sym lawful.first;
-    whole = λ none. sym (lawful.empty (omega (arith, none)));
-    counts = λ u x lt in_range. absurd (omega (arith, lt));
+  pub own_rearranged : (from last : ℕ) → from ≤ last → last < vertices g → IsRearranged g from (last + 1) (slice_range g.targets (row_start g from) (row_end g last))
+  own_rearranged from last le lt = record {
+    size = λ next. omega (arith, long, row_end-next g last next);
+    whole = λ past. omega (arith, long, row_end-last g last past);
+    counts = λ v x ge v_lt in_range.
+        ap (count_by (λ y. eqb y x)) (part_of_part g.targets (row_start g from) (row_end g last) (row_start g v) (row_end g v) (start_rises from v ge in_range) (row_start-le-row_end g lawful v in_range)
+        (end_rises v (omega (arith, v_lt))));
+  } where
+    long : row_start g from + length (slice_range g.targets (row_start g from) (row_end g last)) ≡ row_end g last
+    long = omega (arith, length-between g.targets (row_start g from) (row_end g last) (row_end-le g lawful last), start_before_end from last le lt)
+
+    end_rises : (v : ℕ) → v ≤ last → row_end g v ≤ row_end g last
+    end_rises v v_le = elim (cases_eq v last) [
+      | inl same ↦ omega (arith, ap (row_end g) same)
+      | inr other ↦ omega (arith, row_end-le-row_start g lawful v last (omega (arith, v_le, other)) lt, row_start-le-row_end g lawful last lt)
+    ]
+
+  pub rearranged_none : (from : ℕ) → from < vertices g → IsRearranged g from from []
+  rearranged_none from some = record {
+    size = λ _. omega arith;
+    whole = λ none. absurd (omega (arith, none, some));
+    counts = λ v x ge lt _. absurd (omega (arith, ge, lt));
   }
-
-  pub rearranged_all : (mirror : List ℕ) → IsRearrangedTo g (vertices g) mirror → IsRearranged g mirror
-  rearranged_all mirror h = record { size = h.whole (omega arith); counts = λ v x lt. h.counts v x lt lt }
 
   -- a part of the front of a list
   front : (xs ys : List ℕ) (i j x : ℕ) → j ≤ length xs → count_in (xs ++ ys) i j x ≡ count_in xs i j x
@@ -247,21 +307,22 @@ module _ (g : RawGraph) (lawful : IsLawful g) where
       let dropped : drop i (xs ++ ys) ≡ ys = drop-append-le i xs ys (omega (arith, i_is)) ∙ ap (λ l. l ++ ys) (drop_all i xs (omega (arith, i_is))) in
       ap (count_by (λ y. eqb y x)) (ap (take (j - i)) dropped ∙ take_all (j - i) ys (omega (arith, i_is, j_is)))
 
-  pub rearranged_more : (v : ℕ) (mirror part : List ℕ) → IsRearrangedTo g v mirror → v < vertices g → length part ≡ length (row g v) → IsPermutation (row g v) part → IsRearrangedTo g (v + 1) (mirror ++ part)
-  rearranged_more v mirror part h lt size same = record {
+  pub rearranged_more : (from v : ℕ) (mirror part : List ℕ) → IsRearranged g from v mirror → from ≤ v → v < vertices g → length part ≡ length (row g v) → IsPermutation (row g v) part →
+      IsRearranged g from (v + 1) (mirror ++ part)
+  rearranged_more from v mirror part h from_le lt size same = record {
     size = λ next. omega (arith, ends, row_end-next g v next);
     whole = λ past. omega (arith, ends, row_end-last g v past);
-    counts = λ u x u_lt u_in. elim (cases_eq u v) [
+    counts = λ u x ge u_lt u_in. elim (cases_eq u v) [
       | inl here ↦
-          let P : ℕ → Type 0 = λ k. count_in (mirror ++ part) (row_start g k) (row_end g k) x ≡ count g k x in
-          subst P (sym here) (back mirror part (row_start g v) (row_end g v) x (sym (h.size lt)) (omega (arith, ends, length-append mirror part))
+          let P : ℕ → Type 0 = λ k. count_in (mirror ++ part) (start_in g from k) (end_in g from k) x ≡ count g k x in
+          subst P (sym here) (back mirror part (start_in g from v) (end_in g from v) x (omega (arith, h.size lt)) (omega (arith, ends, length-append mirror part))
           ∙ sum_by-IsPermutation (λ y. cond (eqb y x) 1 0) (row g v) part same)
       | inr other ↦
           let before : u < v = omega (arith, u_lt, other) in
-          front mirror part (row_start g u) (row_end g u) x (omega (arith, row_end-le-row_start g lawful u v before lt, h.size lt)) ∙ h.counts u x before u_in
+          front mirror part (start_in g from u) (end_in g from u) x (omega (arith, row_end-le-row_start g lawful u v before lt, h.size lt)) ∙ h.counts u x ge before u_in
     ];
   } where
-    ends : length (mirror ++ part) ≡ row_end g v
+    ends : row_start g from + length (mirror ++ part) ≡ row_end g v
     ends = omega (arith, length-append mirror part, h.size lt, size, length-row g lawful v, row_start-le-row_end g lawful v lt)
 
 -- ---- windows

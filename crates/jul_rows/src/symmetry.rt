@@ -2,7 +2,8 @@
 //!
 //! For each vertex two tallies count the targets of its row and the sources of its in-row. At a target
 //! that the first has more often than the second, more edges lead there than back. Since each tally is
-//! taken back before the next vertex, the work is linear in vertices and places.
+//! taken back before the next vertex, the work is linear in vertices and places. A graph that is found mirrored
+//! needs no tallies.
 ghost use Rattle.std.specs.Prelude.{◌≡◌, ℕ, ◌<◌, ◌≤◌, [], length, slice_index};
 ghost use Rattle.std.specs.Prelude.{IfOk, IfSome, IfNone, MatchOption};
 ghost use Rattle.std.specs.List.{All};
@@ -11,7 +12,6 @@ ghost use Rattle.jul_base.specs.InRows.{AreSources, in_places};
 ghost use Rattle.jul_base.specs.Symmetry.{IsSymmetric, IsFirstAsymmetricPlace};
 ghost use Rattle.jul_rows.specs.Balance.{IsTallyOf, IsBalancedRow, IsFirstOfRow, IsFirstExcess};
 
-use crate::mirroring::is_mirrored;
 use crate::out_rows::Rows;
 use crate::tally::Counts;
 use std::alloc::AllocError;
@@ -26,9 +26,19 @@ impl Rows {
         ensures first { IfOk result (λ found.
             MatchOption found (IsSymmetric self.now) (IsFirstAsymmetricPlace self.now)) }
     {
-        if is_mirrored(self)? {
+        if self.is_window_mirrored(0, self.n())? {
             return Ok(None);
         }
+        self.first_asymmetry_by_tallies()
+    }
+
+    /// The same without the test that finds a symmetric graph symmetric: the shorter way where the graph isn't.
+    ///
+    /// Takes the memory of `flip` and two numbers a vertex, and gives it back.
+    pub fn first_asymmetry_by_tallies(&self) -> Result<Option<u32>, AllocError>
+        ensures first { IfOk result (λ found.
+            MatchOption found (IsSymmetric self.now) (IsFirstAsymmetricPlace self.now)) }
+    {
         let in_rows = self.flip()?;
         let alloc = self.raw().targets.allocator();
         let mut to = Counts::new(alloc, self.n())?;

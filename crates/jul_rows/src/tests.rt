@@ -96,6 +96,7 @@ fn the_least_asymmetric_place_is_named(rt: HostRuntime) -> Result<(), Fail> {
     for (offsets, targets, wanted) in cases {
         let rows = plain(&rt, rt.alloc(), offsets, targets)?;
         assert_eq!(rt; rows.first_asymmetry()?, wanted);
+        assert_eq!(rt; rows.first_asymmetry_by_tallies()?, wanted);
     }
     Ok(())
 }
@@ -108,18 +109,36 @@ fn window_is(rows: &Rows, from: u32, to: u32, mirrored: bool) -> Result<bool, Fa
     Ok(rows.is_window_mirrored(from, to)? == mirrored)
 }
 
+/// Whether each window of the first four vertices was found mirrored.
+fn all_windows_are_mirrored(rows: &Rows) -> Result<bool, Fail> {
+    for from in 0..5u32 {
+        for to in from..5 {
+            if !window_is(rows, from, to, true)? {
+                return Ok(false);
+            }
+        }
+    }
+    Ok(true)
+}
+
 #[test]
 fn windows_are_found_mirrored(rt: HostRuntime) -> Result<(), Fail> {
     let rows = plain(&rt, rt.alloc(), &[0, 2, 4, 7], &[1, 2, 0, 2, 0, 1, 3, 2])?;
-    for from in 0..5u32 {
-        for to in from..5 {
-            assert!(rt; window_is(&rows, from, to, true)?, "from {from} to {to}");
-        }
-    }
+    assert!(rt; all_windows_are_mirrored(&rows)?);
     // 3 leads to 1 twice, and there is one place back; 2 lacks a place back to 3.
     let rows = plain(&rt, rt.alloc(), &[0, 1, 3, 3], &[1, 0, 3, 1, 1, 2])?;
     assert!(rt; window_is(&rows, 0, 3, true)? && window_is(&rows, 3, 4, false)?);
     assert!(rt; window_is(&rows, 0, 4, false)?);
+    Ok(())
+}
+
+#[test]
+fn windows_of_rows_in_any_order_are_found_mirrored(rt: HostRuntime) -> Result<(), Fail> {
+    let rows = plain(&rt, rt.alloc(), &[0, 2, 4, 7], &[2, 1, 2, 0, 3, 0, 1, 2])?;
+    assert!(rt; all_windows_are_mirrored(&rows)?);
+    // The row of 2 has 1 twice and lacks 0.
+    let rows = plain(&rt, rt.alloc(), &[0, 2, 4, 7], &[2, 1, 2, 0, 3, 1, 1, 2])?;
+    assert!(rt; window_is(&rows, 0, 2, true)? && window_is(&rows, 2, 4, false)?);
     Ok(())
 }
 

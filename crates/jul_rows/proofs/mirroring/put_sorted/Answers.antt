@@ -1,7 +1,7 @@
 use Rattle.std.proofs.Common.{◌≡◌, ℕ, ◌+◌, List, ◌++◌, length, sym, ◌∙◌, ap, subst, arith}
 use Rattle.std.specs.List.Sorted.{IsPermutation}
 use Rattle.jul_base.specs.Graph.{row}
-use Rattle.jul_rows.specs.Mirrors.{IsRearrangedTo}
+use Rattle.jul_rows.specs.Mirrors.{IsRearranged}
 use Rattle.jul_rows.proofs.MirrorLaws.{rearranged_more}
 use Rattle.jul_rows.proofs.mirroring.put_sorted.Goals as goal
 
@@ -17,6 +17,6 @@ returns c =
     omega (arith, ap (λ (l : List ℕ). length l) row_is, c.sort_unstable.ensures.len, c.sort_unstable.new.self.ok, c.extend_from_slice.new.self.ok) in
     record {
       after =
-          subst (IsRearrangedTo g (c.args.v + 1)) (sym (c.in_ok-extend_from_slice-2.ensures.items ∙ ap (λ (l : List ℕ). c.args.sorted.now.items ++ l) c.as_slice.ensures.value))
-          (rearranged_more g c.requires.lawful c.args.v c.args.sorted.now.items part c.requires.before c.requires.vertex size same);
+          subst (IsRearranged g c.args.from (c.args.v + 1)) (sym (c.in_ok-extend_from_slice-2.ensures.items ∙ ap (λ (l : List ℕ). c.args.sorted.now.items ++ l) c.as_slice.ensures.value))
+          (rearranged_more g c.requires.lawful c.args.from c.args.v c.args.sorted.now.items part c.requires.before c.requires.ordered c.requires.vertex size same);
     }

@@ -1,7 +1,7 @@
 use Rattle.std.proofs.Common.{◌≡◌, ℕ, ◌<◌, [], length}
 use Rattle.jul_base.specs.Graph.{vertices}
 use Rattle.jul_rows.specs.Balance.{IsTallyOf, IsBalancedRow}
-use Rattle.jul_rows.proofs.out_rows.Rows.first_asymmetry.Given as goal
+use Rattle.jul_rows.proofs.out_rows.Rows.first_asymmetry_by_tallies.Given as goal
 
 abbrev pub invariant-loop-u : goal.invariant-loop-u
 invariant-loop-u l = record {
