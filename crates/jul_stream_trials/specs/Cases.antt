@@ -26,12 +26,14 @@ number_from input at = first_number (tokens_from input at)
 -- the case whose file has so many bytes from a place on, where there are so many
 abbrev pub case_at : List ℕ → ℕ → ℕ → ℕ → Option Case
 case_at input limit start size =
-    if nat_le (start + size) (length input) then Some (record { limit = limit; start = start; end = start + size }) else None
+    if nat_le (start + size) (length input) then Some (record { limit = limit; start = start; end = start + size })
+    else None
 
 -- the limit, the size, a white byte and the file
 abbrev pub case_from : List ℕ → ℕ → Option Case
 case_from input at =
-    option_and_then (λ limit. option_and_then (λ size. case_at input limit.value (size.end + 1) size.value) (number_from input limit.end))
+    option_and_then (λ limit.
+    option_and_then (λ size. case_at input limit.value (size.end + 1) size.value) (number_from input limit.end))
     (number_from input at)
 
 -- no cases, where no token is left

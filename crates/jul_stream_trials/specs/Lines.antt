@@ -23,7 +23,8 @@ graph_line block workers g =
 -- the most bytes of a block and the most workers, and the fault
 abbrev pub fault_line : ℕ → ℕ → Fault → List ℕ
 fault_line block workers f =
-    spaced (decimal block) (spaced (decimal workers) (spaced (kind_name f.kind) (spaced (decimal f.token) (decimal f.at ++ codes "\n"))))
+    spaced (decimal block) (spaced (decimal workers) (spaced (kind_name f.kind)
+    (spaced (decimal f.token) (decimal f.at ++ codes "\n"))))
 
 -- what was read
 unfoldable pub line_of : ℕ → ℕ → Result RawGraph Fault → List ℕ

@@ -1,7 +1,7 @@
 //! The cases of an input: graph files, each with the most bytes that it may have.
 //!
-//! An input begins with the number of cases. A case is the most bytes that its file may have, how many bytes the file has, a
-//! white byte and the file. Numbers are decimal, at most `MAX_BYTES`, and stand between white bytes.
+//! An input begins with the number of cases. A case is the most bytes that its file may have, how many bytes the file
+//! has, a white byte and the file. Numbers are decimal, at most `MAX_BYTES`, and stand between white bytes.
 ghost use Rattle.std.specs.Prelude.{◌≡◌, ◌≤◌, length, All, Err, IfOk, Some, None, IfSome};
 ghost use Rattle.jul_base.specs.declared.limits.TheConstants.{MAX_BYTES};
 ghost use Rattle.jul_stream_trials.specs.declared.errors.TrialError.TheVariants.{Malformed};

@@ -1,7 +1,7 @@
 //! Graph files read in blocks of few bytes and of many, each with a line that tells what the reading gave.
 //!
-//! The files come on standard input (`cases`), and the lines go to standard output (`lines`). Tests compare them with those of
-//! an implementation that shares no code with this one.
+//! The files come on standard input (`cases`), and the lines go to standard output (`lines`). Tests compare them with
+//! those of an implementation that shares no code with this one.
 #![tactic(auto)]
 
 mod cases;
