@@ -6,6 +6,7 @@ Turn by turn the same for each count of a seed; it ends at the first turn that i
 text that was answered is handed to the program again, on the same graph and without sources: a check says yes, and an upgrade
 gives the same bytes.
 """
+import functools
 import random
 import sys
 import tempfile
@@ -21,6 +22,7 @@ GATE_TURNS, GATE_SEED = 6000, 20
 YES = b"yes\n"
 
 
+@functools.lru_cache(maxsize=None)
 def case(seed, turn):
     """The words and the files of a turn; the file of the name - is standard input."""
     rng = random.Random(f"{seed} {turn}")
@@ -30,6 +32,13 @@ def case(seed, turn):
     reads_witness = asked_for is not None and asked_for.witness == b"-"
     stdin = scene.witness if reads_witness else scene.graph
     return words, {b"g": scene.graph, b"w": scene.witness, b"-g": scene.graph, b"-": stdin}
+
+
+def files(seed, count):
+    """Each file of so many turns of a seed."""
+    for turn in range(count):
+        made = case(seed, turn)[1]
+        yield from (made[b"g"], made[b"w"])
 
 
 def is_whole(asked_for, code):

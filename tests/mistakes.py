@@ -29,7 +29,8 @@ HEADER = 'if header not in (b"AdjacencyGraph", b"WeightedAdjacencyGraph")'
 PEELED = "sources, inner = in_sources(rows), [len(row) for row in rows]\n    cores"
 POSITIONAL = 'if are_names_over or word == b"-" or not word.startswith(b"-"):'
 
-READING = [
+# of graph files, and of all files
+READING_GRAPHS = [
     ("vertical tabs are white", r"[^ \t\r\n]+", r"[^ \t\r\n\x0b]+"),
     ("the byte of Truncated is where the last token ends", 'Fault("Truncated", self.taken, self.length)',
      'Fault("Truncated", self.taken, self.last.end() if self.last else 0)'),
@@ -54,9 +55,11 @@ READING = [
     ("-0 is no NegativeWeight", 'rb"-[0-9]+"', 'rb"-0*[1-9][0-9]*"'),
     ("WeightRange one too early", "value(token) > MAX_W", "value(token) >= MAX_W"),
     ("WeightRange one too late", "value(token) > MAX_W", "value(token) > MAX_W + 1"),
-    ("weights are 0 where there are none", "weights = [1] * m", "weights = [0] * m"),
     ("tokens behind the graph are let pass", "tokens.end()\n    ends", "ends"),
     ("the last row is empty", "ends = offsets[1:] + [m]", "ends = offsets[1:] + offsets[-1:]"),
+]
+
+READING_WITNESSES = [
     ("a dash is taken in cores", 'read_entry(tokens, word != b"Cores")', "read_entry(tokens, True)"),
     ("no dash is taken in covers", 'read_entry(tokens, word != b"Cores")', 'read_entry(tokens, word == b"Distances")'),
     ("a dash is taken for the size of a witness", TAKEN,
@@ -87,7 +90,17 @@ READING = [
     ("tokens behind a witness are let pass", "tokens.end()\n    return Witness", "return Witness"),
 ]
 
+# of the limit of a graph file, which no turn of the attack reaches: they are found by reading files in blocks alone
+LIMITS = [
+    ("TooLong one too early", "len(text) > limit", "len(text) >= limit"),
+    ("TooLong one too late", "len(text) > limit", "len(text) > limit + 1"),
+    ("TooLong isn't tested", "len(text) > limit", "False"),
+    ("the byte of TooLong is the length of the file", 'Fault("TooLong", 0, limit)', 'Fault("TooLong", 0, len(text))'),
+    ("the bytes above the limit are left aside", 'raise Fault("TooLong", 0, limit)', "text = text[:limit]"),
+]
+
 WALKS = [
+    ("weights are 0 where there are none", "weights = [1] * m", "weights = [0] * m"),
     ("the first of repeated edges counts alone", "for v, weight in rows[u]:\n            if least[v] is None",
      "for v, weight in dict(reversed(rows[u])).items():\n            if least[v] is None"),
     ("a distance is that of the least number of places", "(distance + weight, hops + 1, v)", "(distance + 1, hops + 1, v)"),
@@ -436,4 +449,5 @@ COMMAND_LINE = [
     ("a demo may be of a check", "solved not in (SOLVED if is_demo else ALLOWED)", "solved not in ALLOWED"),
 ]
 
-MISTAKES = READING + WALKS + CORES + COVERS + TEXTS + GENERATOR + CHECKING + BOUNDS + COMMAND_LINE
+MISTAKES = READING_GRAPHS + READING_WITNESSES + WALKS + CORES + COVERS + TEXTS + GENERATOR + CHECKING + BOUNDS + COMMAND_LINE
+IN_BLOCKS = READING_GRAPHS + LIMITS

@@ -4,6 +4,7 @@ import subprocess
 
 TOP = os.path.dirname(os.path.dirname(os.path.abspath(__file__)))
 PROGRAM = os.environ.get("JULIENNE") or os.path.join(TOP, "crates", "julienne", "out", "julienne")
+STREAM_TRIALS = os.path.join(TOP, "crates", "jul_stream_trials", "out", "jul_stream_trials")
 LONGEST = 120       # seconds that a run may take
 
 

@@ -10,10 +10,12 @@ vertices for each bound in turn, covers by sets, and each reason of a checker is
     generator.py      the generated graphs
     command_line.py   which words are taken, and what they ask for
     answering.py      the exit code and the bytes of both outputs
+    telling.py        what is told of a graph file that was read
 """
 from .answering import answer, columns
 from .checking import verdict
 from .command_line import USAGE
 from .definitions import cover_lines, cores_lines, distances_lines, first_asymmetric_place
 from .generator import generate
-from .reading import MAX_M, MAX_N, MAX_SOURCE, MAX_SOURCES, MAX_W, read_graph, read_witness
+from .reading import MAX_BYTES, MAX_M, MAX_N, MAX_SOURCE, MAX_SOURCES, MAX_W, read_graph, read_witness
+from .telling import told

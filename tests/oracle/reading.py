@@ -3,6 +3,7 @@ import re
 from collections import namedtuple
 
 MAX_N, MAX_M, MAX_W = 2**24, 2**27, 2**32 - 1
+MAX_BYTES = 2**32
 MAX_SOURCES, MAX_SOURCE = 1024, 2**32 - 1
 GREATEST = 2**64 - 2        # the greatest number of a column
 COLUMNS = {b"Cores": 2, b"Distances": 3, b"Cover": 2}
@@ -16,7 +17,8 @@ class Fault(Exception):
 
     def __init__(self, kind, token, at):
         super().__init__(kind)
-        self.place = b"%s at token %d, byte %d\n" % (kind.encode(), token, at)
+        self.kind, self.token, self.at = kind.encode(), token, at
+        self.place = b"%s at token %d, byte %d\n" % (self.kind, token, at)
 
 
 def is_number(token):
@@ -112,8 +114,10 @@ def read_weight(tokens):
     return value(token)
 
 
-def read_graph(text):
-    """The rows of a graph file as lists of (target, weight), or its first fault."""
+def read_graph(text, limit=MAX_BYTES):
+    """The rows of a graph file as lists of (target, weight), or its first fault; the limit is the most bytes that it may have."""
+    if len(text) > limit:
+        raise Fault("TooLong", 0, limit)
     tokens = Tokens(text)
     header = tokens.take()
     if header not in (b"AdjacencyGraph", b"WeightedAdjacencyGraph"):

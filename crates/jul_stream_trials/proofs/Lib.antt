@@ -1,0 +1,3 @@
+mod CaseLaws
+mod LineLaws
+mod ReadingLaws
