@@ -15,7 +15,7 @@ use Rattle.jul_base.proofs.CoverFallLaws.{greatest_falls}
 use Rattle.jul_base.proofs.CoverEndLaws.{round-below}
 
 -- a later round bids less, whichever sets bid
-bid-later : (t u r s : ℕ) → t < u → u < 2 ^ 32 → r < 2 ^ 32 → bid u r < bid t s
+pub bid-later : (t u r s : ℕ) → t < u → u < 2 ^ 32 → r < 2 ^ 32 → bid u r < bid t s
 bid-later t u r s later few r_lt =
     let step : 2 ^ 32 - 1 - u + 1 ≤ 2 ^ 32 - 1 - t = omega arith in
     let fewer : (2 ^ 32 - 1 - u + 1) * 2 ^ 32 ≤ (2 ^ 32 - 1 - t) * 2 ^ 32 = mul-le-mul_right (2 ^ 32) step in

@@ -10,7 +10,9 @@ use Rattle.jul_base.specs.Logs.{Home}
 use Rattle.jul_base.specs.Numbers.{IsLeastOrNone}
 use Rattle.jul_base.specs.Sets.{has, AreSets}
 use Rattle.jul_base.specs.CoverRounds.{set_at, size, greatest_size, floor_log2, covered_before, IsCover, IsRound, IsCoveredBy, IsRoundCount}
+use Rattle.jul_base.proofs.CoverEndLaws.{element_covered}
 use Rattle.jul_base.proofs.PowerLaws.{floor_log2-le}
+use Rattle.jul_base.proofs.SetLaws.{Contains-from_has, member_cases}
 use Rattle.jul_base.proofs.CoverRoundLaws.{greatest_is}
 use Rattle.jul_words.specs.Seats.{Seat, floor_of, home, rooted}
 use Rattle.jul_words.specs.Least.{word_of}
@@ -21,7 +23,7 @@ use Rattle.jul_subset.proofs.IncreasingLaws.{length_below}
 use Rattle.jul_cover.specs.declared.packed_sets.PackedSets.{PackedSets}
 use Rattle.jul_cover.specs.PackedSets.{pack_at, ArePacked}
 use Rattle.jul_cover.specs.Offers.{IsRootOf}
-use Rattle.jul_cover.specs.CoverBids.{IsLastBid}
+use Rattle.jul_cover.specs.CoverBids.{IsLastBid, IsBidBefore}
 use Rattle.jul_cover.specs.CoverBounds.{IsSmallCover}
 use Rattle.jul_cover.specs.CoverDraws.{HaveDraws}
 use Rattle.jul_cover.specs.CoverMoves.{AreSizes}
@@ -99,8 +101,11 @@ module _ (sets : List (List ℕ)) (are : AreSets sets) (few : length sets ≤ MA
         round_size = ap length round_is ∙ length-replicate (length sets) NONE;
         by_size = ap length by_is ∙ length-replicate (length sets) NONE;
         bids = λ e lt. record {
-          least = λ some. absurd (some (word_none (length sets) bid_table bids e bids_are lt));
-          none = λ _ y (u, r, u_lt, b, is). omega arith;
+          held = λ some. absurd (some (word_none (length sets) bid_table bids e bids_are lt));
+          least = λ _. record {
+            least = λ some. absurd (some (word_none (length sets) bid_table bids e bids_are lt));
+            none = λ _ y (u, r, u_lt, b, is). omega arith;
+          };
         };
         owners = λ e lt. subst (IsLeastOrNone (IsOwner sets e 0)) (sym (none_at by e by_is lt)) (IsOwner-zero sets e);
         by_words = λ e lt. word_none (length sets) owner_table owners e owners_are lt ∙ sym (none_at by e by_is lt);
@@ -146,7 +151,17 @@ module _ (sets : List (List ℕ)) (are : AreSets sets) (few : length sets ≤ MA
     is_small cover round_is by_is = small_cover sets are cover.round (is_cover cover round_is by_is).round
 
     pub last_bids : (e : ℕ) → e < length sets → IsLastBid sets e (word_of at.bids e)
-    last_bids e lt = IsLastBid-from_words sets e at.round (word_of at.bids e) few all_covered (h.bids e lt)
+    last_bids e lt = IsLastBid-from_words sets e at.round (word_of at.bids e) few all_covered least where
+      least : IsLeastOrNone (IsBidBefore sets e at.round) (word_of at.bids e)
+      least =
+          elim (member_cases (covered_before sets at.round) e) [
+            | inl covered ↦ (h.bids e lt).least covered
+            | inr open' ↦
+                let no_bid : (z : ℕ) → IsBidBefore sets e at.round z → ⊥ =
+                λ z (u, r, u_lt, b, is).
+                open' (Contains-from_has (covered_before sets at.round) e (element_covered sets at.round e all_covered (r, b.in_range, b.held))) in
+                record { least = λ some. absurd (no_bid (word_of at.bids e) ((h.bids e lt).held some)); none = λ _. no_bid }
+          ]
 
     pub all_draws : (t : ℕ) × IsRoundCount sets t × HaveDraws sets s.draws t
     all_draws = (

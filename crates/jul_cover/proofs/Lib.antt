@@ -13,5 +13,11 @@ pub mod OfferLaws
 pub mod MoveLaws
 pub mod RoundLaws
 pub mod TurnLaws
+pub mod BiddingTurnLaws
+pub mod HolderLaws
+pub mod WinnerLaws
+pub mod KeepingLaws
+pub mod CandidateLaws
+pub mod KeptTurnLaws
 pub mod MoveTurnLaws
 pub mod EngineLaws

@@ -1,19 +1,20 @@
 -- One round over plain columns and words: what bids and owners become, who is active, who is chosen.
 use Rattle.std.proofs.Common.{◌≡◌, ◌≢◌, ◌⊎◌, ℕ, suc, ◌+◌, ◌*◌, ◌^◌, ◌<◌, ◌≤◌, Bool, true, leb, cond, List, [], ◌∷◌, length, refl, sym, ap, ◌∙◌, subst, arith, inl, inr}
 use Rattle.std.specs.List.{filter, Contains}
-use Rattle.std.proofs.lemmas.Bool.{cases_eq, cases_lt, and_from, le-leb}
+use Rattle.std.proofs.lemmas.Bool.{cases_lt, and_from, le-leb}
 use Rattle.std.proofs.lemmas.List.Sums.{count_by-le-length}
 use Rattle.std.proofs.lemmas.List.FromFn.{length-range_with_len}
 use Rattle.jul_base.specs.declared.limits.TheConstants.{NONE, MAX_N}
 use Rattle.jul_base.specs.Numbers.{below, IsLeastOrNone}
 use Rattle.jul_base.specs.Sets.{has}
-use Rattle.jul_base.specs.CoverRounds.{size, floor_log2, bucket, is_active, won, is_chosen, covered_before, chosen_in}
+use Rattle.jul_base.specs.CoverRounds.{set_at, size, floor_log2, bucket, is_active, won, is_chosen, covered_before, chosen_in}
 use Rattle.jul_base.proofs.CountLaws.{has_here, has_later}
 use Rattle.jul_base.proofs.CoverRoundLaws.{is_chosen-parts, chosen-parts}
 use Rattle.jul_base.proofs.PeelLaws.{has_kept, has_below}
-use Rattle.jul_base.proofs.SetLaws.{Contains-from_has, has-from_Contains}
-use Rattle.jul_cover.specs.CoverBids.{bid, Bids, IsBidBefore}
-use Rattle.jul_cover.proofs.CoverBidLaws.{bid_some}
+use Rattle.jul_base.proofs.SetLaws.{Contains-from_has, has-from_Contains, member_cases}
+use Rattle.jul_cover.specs.CoverBids.{bid, Bids, IsBidBefore, IsBidWord}
+use Rattle.jul_base.proofs.CoverFallLaws.{covered-cases}
+use Rattle.jul_cover.proofs.CoverBidLaws.{bid-later, bid_some, Bids-round}
 
 -- tests that agree at each element keep the same elements
 pub filter_in : (p q : ℕ → Bool) (xs : List ℕ) → ((x : ℕ) → has xs x ≡ true → p x ≡ q x) → filter p xs ≡ filter q xs
@@ -55,40 +56,72 @@ chosen_is sets t s there =
 
 -- ---- the words of the bids
 
-pub bids_step : (sets : List (List ℕ)) (t e x y : ℕ) → length sets ≤ MAX_N → IsLeastOrNone (IsBidBefore sets e t) x → y ≤ x →
-    (y ≡ x) ⊎ ((s : ℕ) × Bids sets e t s × (y ≡ bid t s)) → ((s : ℕ) → Bids sets e t s → y ≤ bid t s) → IsLeastOrNone (IsBidBefore sets e (suc t)) y
-bids_step sets t e x y few old le each lower = record {
-  least = λ some. record { holds = held some; least = λ z is. (under z is).0 };
-  none = λ none z is. (let u : (y ≤ z) × (z < NONE) = under z is in absurd (omega (arith, none)));
+-- a word that isn't NONE after a round has a bid
+bid_held : (sets : List (List ℕ)) (t e x y : ℕ) → (x ≢ NONE → IsBidBefore sets e t x) → (y ≡ x) ⊎ ((s : ℕ) × Bids sets e t s × (y ≡ bid t s)) →
+    y ≢ NONE → IsBidBefore sets e (suc t) y
+bid_held sets t e x y old each some =
+    elim each [
+      | inl same ↦
+          let (u, s, lt, b, is) = old (λ none. some (same ∙ none)) in
+          (u, s, omega arith, b, same ∙ is)
+      | inr (s, b, is) ↦ (t, s, omega arith, b, is)
+    ]
+
+-- where some set bids, a word to which each that bids has lowered it is the least of all bids
+pub least_now : (sets : List (List ℕ)) (t e x y : ℕ) → length sets ≤ MAX_N → (x ≢ NONE → IsBidBefore sets e t x) → (y ≡ x) ⊎ ((s : ℕ) × Bids sets e t s × (y ≡ bid t s)) →
+    (r : ℕ) → Bids sets e t r → ((s : ℕ) → Bids sets e t s → y ≤ bid t s) → IsLeastOrNone (IsBidBefore sets e (suc t)) y
+least_now sets t e x y few old each r bids_r lower = record {
+  least = λ some. record { holds = bid_held sets t e x y old each some; least = under };
+  none = λ none z is. absurd (omega (arith, lower r bids_r, bid_some t r (omega (arith, bids_r.in_range)), none));
 }
   where
-    under : (z : ℕ) → IsBidBefore sets e (suc t) z → (y ≤ z) × (z < NONE)
+    under : (z : ℕ) → IsBidBefore sets e (suc t) z → y ≤ z
     under z (u, s, lt, b, is) =
-        let small : bid u s < NONE = bid_some u s (omega (arith, b.in_range)) in
         elim (cases_lt u t) [
-          | inl earlier ↦
-              elim (cases_eq x NONE) [
-                | inl none ↦ absurd (old.none none z (u, s, earlier, b, is))
-                | inr some ↦
-                    let least : x ≤ z = (old.least some).least z (u, s, earlier, b, is) in
-                    (omega arith, omega (arith, is))
-              ]
+          | inl earlier ↦ omega (arith, lower r bids_r, bid-later u t r s earlier (omega (arith, Bids-round sets e t r bids_r)) (omega (arith, bids_r.in_range)), is)
           | inr late ↦
               let now : u ≡ t = omega arith in
               let least : y ≤ bid t s = lower s (subst (λ k. Bids sets e k s) now b) in
-              let is_now : z ≡ bid t s = is ∙ ap (λ k. bid k s) now in
-              (omega (arith, is_now), omega (arith, is))
+              omega (arith, least, is, ap (λ k. bid k s) now)
         ]
 
-    held : y ≢ NONE → IsBidBefore sets e (suc t) y
-    held some =
-        elim each [
-          | inl same ↦
-              let some_x : x ≢ NONE = λ none. some (same ∙ none) in
-              let (u, s, lt, b, is) = (old.least some_x).holds in
-              (u, s, omega arith, b, same ∙ is)
-          | inr (s, b, is) ↦ (t, s, omega arith, b, is)
+-- a covered element gets no bid more
+least_kept : (sets : List (List ℕ)) (t e x : ℕ) → Contains (covered_before sets t) e → IsLeastOrNone (IsBidBefore sets e t) x → IsLeastOrNone (IsBidBefore sets e (suc t)) x
+least_kept sets t e x covered old = record {
+  least = λ some. record {
+    holds = let (u, s, lt, b, is) = (old.least some).holds in (u, s, omega arith, b, is);
+    least = λ z is. (old.least some).least z (before z is);
+  };
+  none = λ none z is. old.none none z (before z is);
+}
+  where
+    before : (z : ℕ) → IsBidBefore sets e (suc t) z → IsBidBefore sets e t z
+    before z (u, s, lt, b, is) =
+        elim (cases_lt u t) [
+          | inl earlier ↦ (u, s, earlier, b, is)
+          | inr late ↦ let now : u ≡ t = omega arith in absurd ((subst (λ k. Bids sets e k s) now b).open' covered)
         ]
+
+-- a round in which sets bid, and in which an element that it covers is lowered to the least of all bids for it
+pub word_step : (sets : List (List ℕ)) (t e x y : ℕ) → length sets ≤ MAX_N → IsBidWord sets e t x → (y ≡ x) ⊎ ((s : ℕ) × Bids sets e t s × (y ≡ bid t s)) →
+    ((q : ℕ) → Contains (chosen_in sets t) q → Contains (set_at sets q) e → (s : ℕ) → Bids sets e t s → y ≤ bid t s) → IsBidWord sets e (suc t) y
+word_step sets t e x y few old each lower = record {
+  held = bid_held sets t e x y old.held each;
+  least = λ covered'.
+      elim (member_cases (covered_before sets t) e) [
+        | inl covered ↦
+            let same : y ≡ x = elim each [ inl kept ↦ kept | inr (s, b, is) ↦ absurd (b.open' covered) ] in
+            subst (IsLeastOrNone (IsBidBefore sets e (suc t))) (sym same) (least_kept sets t e x covered (old.least covered))
+        | inr open' ↦ elim (covered-cases sets t e (has-from_Contains (covered_before sets (suc t)) e covered')) [
+          | inl covered ↦ absurd (open' (Contains-from_has (covered_before sets t) e covered))
+          | inr (q, is, held) ↦
+              let there : Contains (chosen_in sets t) q = Contains-from_has (chosen_in sets t) q is in
+              let in_set : Contains (set_at sets q) e = Contains-from_has (set_at sets q) e held in
+              let (lt, active, half) = chosen_is sets t q there in
+              least_now sets t e x y few old.held each q (record { in_range = lt; active = active; held = in_set; open' = open' }) (lower q there in_set)
+        ]
+      ];
+}
 
 -- ---- the words of the owners: a word that was NONE and is the least of some numbers, or none
 pub least_owner : (P : ℕ → Type 0) (n x : ℕ) → n ≤ MAX_N → ((s : ℕ) → P s → s < n) → (x ≡ NONE) ⊎ P x → ((s : ℕ) → P s → x ≤ s) → IsLeastOrNone P x

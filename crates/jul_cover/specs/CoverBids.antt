@@ -1,7 +1,7 @@
 -- The bids of sets for elements: what a word has to which each active set lowers it, round after round.
 use Rattle.std.specs.Prelude.{◌≡◌, ◌≢◌, ℕ, ◌+◌, ◌-◌, ◌*◌, ◌^◌, ◌<◌, IsTrue, List, length, Contains}
 use Rattle.jul_base.specs.declared.limits.TheConstants.{NONE}
-use Rattle.jul_base.specs.Numbers.{IsGreatest}
+use Rattle.jul_base.specs.Numbers.{IsGreatest, IsLeastOrNone}
 use Rattle.jul_base.specs.CoverRounds.{set_at, is_active, wins, covered_before}
 
 -- the bid of set 0 in round t: later rounds bid less
@@ -22,6 +22,11 @@ pub record Bids (sets : List (List ℕ)) (e t s : ℕ) : Type 0 where
 -- x is the bid of a set that bids for e in a round before t
 abbrev pub IsBidBefore : List (List ℕ) → ℕ → ℕ → ℕ → Type 0
 IsBidBefore sets e t x = (u : ℕ) × (s : ℕ) × (u < t) × Bids sets e u s × (x ≡ bid u s)
+
+-- a word for e before round t: NONE or the bid of a set that bid for e, and the least such bid once e is covered
+pub record IsBidWord (sets : List (List ℕ)) (e t x : ℕ) : Type 0 where
+  pub held : x ≢ NONE → IsBidBefore sets e t x
+  pub least : Contains (covered_before sets t) e → IsLeastOrNone (IsBidBefore sets e t) x
 
 -- s is the winner of e in round t
 abbrev pub IsWinner : List (List ℕ) → ℕ → ℕ → ℕ → Type 0

@@ -14,7 +14,7 @@ use Rattle.jul_bucket.specs.Places.{set_places}
 use Rattle.jul_bucket.specs.States.{State}
 use Rattle.jul_cover.specs.declared.packed_sets.PackedSets.{PackedSets}
 use Rattle.jul_cover.specs.PackedSets.{pack_at, is_open, ArePacked, HasPacked}
-use Rattle.jul_cover.specs.CoverBids.{bid_base, IsBidBefore}
+use Rattle.jul_cover.specs.CoverBids.{bid_base, IsBidWord}
 use Rattle.jul_cover.specs.CoverDraws.{HaveDraws}
 use Rattle.jul_cover.specs.Columns.{AreWritten}
 use Rattle.jul_cover.specs.Offers.{IsRootOf, HasOffered}
@@ -58,7 +58,7 @@ pub record IsCovering (sets : List (List ℕ)) (bid_table owner_table : List ℕ
   pub owner_home_is : at.owners.home ≡ owner_home
   pub round_size : length round ≡ length sets
   pub by_size : length by ≡ length sets
-  pub bids : (e : ℕ) → e < length sets → IsLeastOrNone (IsBidBefore sets e at.round) (word_of at.bids e)
+  pub bids : (e : ℕ) → e < length sets → IsBidWord sets e at.round (word_of at.bids e)
   pub owners : (e : ℕ) → e < length sets → IsLeastOrNone (IsOwner sets e at.round) (slice_index by e)
   pub by_words : (e : ℕ) → e < length sets → word_of at.owners e ≡ slice_index by e
   pub rounds : (x : ℕ) → x < length sets → IsRoundBefore sets at.round x (slice_index round x)
@@ -91,6 +91,13 @@ pub record CanTurn (bid_table owner_table : List ℕ) (bucket : ℕ) (drawn : Li
 -- the next round, if some set was active
 abbrev pub next_round : ℕ → List ℕ → ℕ
 next_round t active = if length active == 0 then t else t + 1
+
+-- what the chosen sets were given: each its round, each of their elements the least of them, and what became of the drawn sets
+pub record HasGiven (drawn chosen : List ℕ) (pack : ℕ → List ℕ) (round by round' by' : List ℕ) (at at' : At) (s s' : State) : Type 0 where
+  pub owned : HasOffered chosen pack 0 at.owners at'.owners
+  pub rounds : AreWritten chosen (λ _. at.round) round round'
+  pub by_are : AreWritten (flat_map pack chosen) (word_of at'.owners) by by'
+  pub moved : s' ≡ record s { places = set_places s.places (moves_of pack round' drawn) }
 
 -- what a turn did: the drawn sets were packed, the active ones bid, those that won half took their elements, the others went to
 -- the buckets of their sizes

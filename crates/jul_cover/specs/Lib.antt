@@ -7,3 +7,5 @@ pub mod Offers
 pub mod Choosing
 pub mod CoverMoves
 pub mod CoverWork
+pub mod Keeping
+pub mod KeptTurns

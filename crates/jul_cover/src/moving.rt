@@ -59,7 +59,7 @@ fn moves_among(
 
     ensures { IfOk result (λ moves. moves.items ≡ moves_of (pack_at packs.now) round.now group.now) }
 {
-    let mut moves = Vec::new(alloc);
+    let mut moves = Vec::with_capacity(alloc, group.len())?;
     for s in group {
         let next = next_of(packs, round, *s);
         match buckets.get_bucket(buckets.place(*s), next) {

@@ -83,6 +83,32 @@ fn a_set_that_wins_too_few_waits(rt: HostRuntime) -> Result<(), Fail> {
     covers_as(&rt, rt.alloc(), &rows, round.as_slice(), by.as_slice())
 }
 
+/// Set s of s, s + 1, s + 2 and s + 3, for each s up to 60, and three empty sets.
+fn rows_of_a_chain(rt: &impl Abort, alloc: Global) -> Result<Rows, Fail> {
+    let mut offsets = Vec::new(alloc);
+    let mut targets = Vec::new(alloc);
+    for s in 0..64u32 {
+        offsets.push(if s < 61 { 4 * s } else { 244 })?;
+        if s < 61 {
+            targets.extend_from_slice(&[s, s + 1, s + 2, s + 3])?;
+        }
+    }
+    rows_of(rt, alloc, offsets.as_slice(), targets.as_slice())
+}
+
+#[test]
+fn a_bucket_that_is_drawn_again_and_again(rt: HostRuntime) -> Result<(), Fail> {
+    // A round chooses the first set that is whole: each other wins one element of four.
+    let rows = rows_of_a_chain(&rt, rt.alloc())?;
+    let mut round = Vec::new(rt.alloc());
+    let mut by = Vec::new(rt.alloc());
+    for s in 0..64u64 {
+        round.push(if s % 4 == 0 { s / 4 } else { NONE })?;
+        by.push(s - s % 4)?;
+    }
+    covers_as(&rt, rt.alloc(), &rows, round.as_slice(), by.as_slice())
+}
+
 #[test]
 fn without_elements_no_set_is_chosen(rt: HostRuntime) -> Result<(), Fail> {
     let rows = rows_of(&rt, rt.alloc(), &[0, 0], &[])?;

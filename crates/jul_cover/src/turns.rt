@@ -102,7 +102,7 @@ pub(crate) fn take_turn<R: Threads + Sync, G: Gate>(
 }
 
 /// The number of the round after this draw, which is a round where some set is active.
-fn round_after(t: u64, active: &[u32]) -> u64
+pub(crate) fn round_after(t: u64, active: &[u32]) -> u64
     requires few { t ≤ MAX_N }
 
     ensures { result ≡ (if length active.now == 0 then t else t + 1) }
@@ -144,7 +144,7 @@ fn choose<R: Threads + Sync, G: Gate>(
 }
 
 /// The chosen sets take their elements, each the least set that holds it, and get the number of the round.
-fn give<R: Threads + Sync, G: Gate>(
+pub(crate) fn give<R: Threads + Sync, G: Gate>(
     rt: &R,
     alloc: Global,
     team: &Team<'_, G>,

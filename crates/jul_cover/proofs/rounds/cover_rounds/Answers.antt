@@ -1,32 +1,16 @@
-use Rattle.std.proofs.Common.{◌≤◌, length, arith}
-use Rattle.jul_base.specs.declared.limits.TheConstants.{MAX_N}
+use Rattle.std.proofs.Common.{sym}
 use Rattle.jul_cover.specs.CoverWork.{At}
-use Rattle.jul_cover.proofs.TurnLaws.{drawn_at, can_turn, still_covering, fewer}
+use Rattle.jul_cover.proofs.KeptTurnLaws.{at_home}
 use Rattle.jul_cover.proofs.rounds.cover_rounds.Goals as goal
 
-pub take_turn-requires-clause-can : goal.take_turn-requires-clause-can
-take_turn-requires-clause-can g c κs within =
-    let few : length c.args.sets.now ≤ MAX_N = omega (arith, c.n.ensures.count, c.n.ensures.few) in
-    let at : At = record { round = c.rounds.at.round; bids = c.rounds.at.bids; owners = c.rounds.at.owners } in
-    can_turn c.args.sets.now c.n.ensures.sets few c.args.bids.now c.args.owners.now c.args.at.bids.home c.args.at.owners.home c.rounds.packs c.rounds.round c.rounds.by at c.rounds.buckets c.rounds.invariant.0
-    c.in-Some.bucket c.in-Some.drawn.items c.next_bucket.new.self (drawn_at c.rounds.buckets c.next_bucket.new.self c.in_ok-bucket.field-0 c.in-Some.bucket c.in-Some.drawn c.in-Some.is c.in_ok-bucket.ensures.drawn)
+pub finish_rounds-requires-clause-covering : goal.finish_rounds-requires-clause-covering
+finish_rounds-requires-clause-covering g c κs within =
+    let at : At = record { round = c.in_ok-first.first.at.round; bids = c.in_ok-first.first.at.bids; owners = c.in_ok-first.first.at.owners } in
+    at_home c.args.sets.now c.args.bids.now c.args.owners.now c.args.at.bids.home c.args.at.owners.home c.in_ok-first.first.at.bids.home c.in_ok-first.first.at.owners.home c.bid_rounds.new.packs c.bid_rounds.new.round c.bid_rounds.new.by at c.bid_rounds.new.buckets
+    (sym c.in_ok-first.ensures.covering.bid_home_is) (sym c.in_ok-first.ensures.covering.owner_home_is) c.in_ok-first.ensures.covering
 
-pub rounds-smaller : goal.rounds-smaller
-rounds-smaller g c =
-    let few : length c.args.sets.now ≤ MAX_N = omega (arith, c.n.ensures.count, c.n.ensures.few) in
-    let at : At = record { round = c.rounds.at.round; bids = c.rounds.at.bids; owners = c.rounds.at.owners } in
-    let after : At = record { round = c.in_ok-at.at.round; bids = c.in_ok-at.at.bids; owners = c.in_ok-at.at.owners } in
-    fewer c.args.sets.now c.n.ensures.sets few c.args.bids.now c.args.owners.now c.args.at.bids.home c.args.at.owners.home c.rounds.packs c.rounds.round c.rounds.by at c.rounds.buckets c.rounds.invariant.0
-    c.in-Some.bucket c.in-Some.drawn.items c.next_bucket.new.self (drawn_at c.rounds.buckets c.next_bucket.new.self c.in_ok-bucket.field-0 c.in-Some.bucket c.in-Some.drawn c.in-Some.is c.in_ok-bucket.ensures.drawn)
-    c.take_turn.new.packs c.take_turn.new.round c.take_turn.new.by after c.take_turn.new.buckets c.in_ok-at.ensures.turned
-
-pub rounds-preserved : goal.rounds-preserved
-rounds-preserved g c =
-    let few : length c.args.sets.now ≤ MAX_N = omega (arith, c.n.ensures.count, c.n.ensures.few) in
-    let at : At = record { round = c.rounds.at.round; bids = c.rounds.at.bids; owners = c.rounds.at.owners } in
-    let after : At = record { round = c.in_ok-at.at.round; bids = c.in_ok-at.at.bids; owners = c.in_ok-at.at.owners } in (
-      still_covering c.args.sets.now c.n.ensures.sets few c.args.bids.now c.args.owners.now c.args.at.bids.home c.args.at.owners.home c.rounds.packs c.rounds.round c.rounds.by at c.rounds.buckets c.rounds.invariant.0
-          c.in-Some.bucket c.in-Some.drawn.items c.next_bucket.new.self (drawn_at c.rounds.buckets c.next_bucket.new.self c.in_ok-bucket.field-0 c.in-Some.bucket c.in-Some.drawn c.in-Some.is c.in_ok-bucket.ensures.drawn)
-          c.take_turn.new.packs c.take_turn.new.round c.take_turn.new.by after c.take_turn.new.buckets c.in_ok-at.ensures.turned,
-      c.in_ok-at.ensures.marks,
-    )
+pub returns-clause-covering : goal.returns-clause-covering
+returns-clause-covering g c =
+    let at : At = record { round = c.in_ok-end.end.round; bids = c.in_ok-end.end.bids; owners = c.in_ok-end.end.owners } in
+    at_home c.args.sets.now c.args.bids.now c.args.owners.now c.in_ok-first.first.at.bids.home c.in_ok-first.first.at.owners.home c.args.at.bids.home c.args.at.owners.home c.finish_rounds.new.packs c.finish_rounds.new.round c.finish_rounds.new.by at c.finish_rounds.new.buckets
+    c.in_ok-first.ensures.covering.bid_home_is c.in_ok-first.ensures.covering.owner_home_is c.in_ok-end.ensures.covering

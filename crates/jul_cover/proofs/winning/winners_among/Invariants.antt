@@ -1,0 +1,7 @@
+use Rattle.std.proofs.Common.{◌≡◌, take}
+use Rattle.jul_cover.specs.PackedSets.{pack_at}
+use Rattle.jul_cover.specs.Keeping.{winners_of}
+use Rattle.jul_cover.proofs.winning.winners_among.Given as goal
+
+abbrev pub invariant-loop-s : goal.invariant-loop-s
+invariant-loop-s l = l.winners.items ≡ winners_of (pack_at l.packs) l.holders l.bucket (take l.s-index l.sets)

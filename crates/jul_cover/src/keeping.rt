@@ -1,0 +1,182 @@
+//! A turn over sets that are kept packed: it costs the drawn sets, and beyond that what it changes.
+ghost use Rattle.std.specs.Prelude.{◌≡◌, ◌↔◌, ℕ, ◌<◌, ◌≤◌, length, All, Contains, IfOk};
+ghost use Rattle.std.specs.List.Sorted.{IsStrictlyIncreasing};
+ghost use Rattle.jul_base.specs.declared.limits.TheConstants.{MAX_N};
+ghost use Rattle.jul_cover.specs.PackedSets.{pack_at, ArePacked, AreOpen, HasPacked};
+ghost use Rattle.jul_cover.specs.CoverBids.{bid_base};
+ghost use Rattle.jul_cover.specs.Offers.{IsRootOf};
+ghost use Rattle.jul_cover.specs.Choosing.{active_of};
+ghost use Rattle.jul_cover.specs.CoverWork.{CanTurn};
+ghost use Rattle.jul_cover.specs.Keeping.{AreWithin, winners_of};
+ghost use Rattle.jul_cover.specs.KeptTurns.{AreAllOpen, HasBid, HasKept};
+
+use crate::choosing::{active_sets, work_of};
+use crate::moving::moves_after;
+use crate::offering::offer_all;
+use crate::packed_sets::PackedSets;
+use crate::packing::pack_each;
+use crate::sizes::base_of;
+use crate::touching::touched_by;
+use crate::turns::{Standing, give, round_after};
+use crate::winning::{winners_among, winning_sets};
+use jul_base::Gate;
+use jul_bucket::Buckets;
+use jul_pool::Team;
+use jul_rows::InRows;
+use jul_subset::VertexSubset;
+use jul_words::{MinSeat, MinWords};
+use std::alloc::{AllocError, Global};
+use std::thread::Threads;
+
+/// Where the rounds stand, and who may be chosen in the next if its bucket is the same.
+#[derive(Drop)]
+pub(crate) struct Kept {
+    pub(crate) at: Standing,
+    pub(crate) candidates: Vec<u32>,
+}
+
+/// Chooses those candidates that win half, gives them their elements, moves the other drawn sets to the buckets of their
+/// sizes, and packs the sets that lost elements. No other set is looked at.
+pub(crate) fn take_kept_turn<R: Threads + Sync, G: Gate>(
+    rt: &R,
+    alloc: Global,
+    team: &Team<'_, G>,
+    packs: &mut PackedSets,
+    holders: &InRows,
+    candidates: &[u32],
+    drawn: &[u32],
+    bucket: u64,
+    bids: &MinWords,
+    owners: &MinWords,
+    at: Standing,
+    round: &mut [u64],
+    by: &mut [u64],
+    marks: &mut [bool],
+    buckets: &mut Buckets,
+) -> Result<Kept, AllocError>
+    requires can { CanTurn bids.now owners.now bucket drawn.now packs.old round.old by.old
+        (record { round = at.round; bids = at.bids; owners = at.owners }) buckets.old }
+    requires open_sets { AreAllOpen by.old packs.old }
+    requires within { AreWithin packs.old.n holders.now }
+    requires increasing { IsStrictlyIncreasing candidates.now }
+    requires in_range { All (λ s. s < packs.old.n) candidates.now }
+    requires marks { AreOpen marks.old by.old }
+
+    ensures kept { IfOk result (λ r. HasKept holders.now bucket drawn.now candidates.now packs.old packs.new
+        round.old by.old round.new by.new (record { round = at.round; bids = at.bids; owners = at.owners })
+        (record { round = r.at.round; bids = r.at.bids; owners = r.at.owners })
+        buckets.old buckets.new r.candidates.items) }
+    ensures marks { IfOk result (λ _. AreOpen marks.new by.new) }
+    ensures increasing { IfOk result (λ r. IsStrictlyIncreasing r.candidates.items) }
+    ensures in_range { IfOk result (λ r. All (λ s. s < packs.new.n) r.candidates.items) }
+{
+    let Standing {
+        round: t,
+        bids: bid_seat,
+        owners: owner_seat,
+    } = at;
+    let chosen = winning_sets(alloc, packs, holders, candidates, bucket)?;
+    let next = round_after(t, chosen.as_slice());
+    let holding = touched_by(alloc, packs, holders, chosen.as_slice())?;
+    let touched = ordered(alloc, packs.n, holding)?;
+    let bid_seat = bid_for(
+        rt,
+        alloc,
+        team,
+        packs,
+        holders,
+        chosen.as_slice(),
+        bucket,
+        t,
+        bids,
+        bid_seat,
+    )?;
+    let owner_seat = give(
+        rt, alloc, team, packs, chosen, t, owners, owner_seat, round, by, marks,
+    )?;
+    let moves = moves_after(rt, alloc, team, drawn, packs, round, buckets)?;
+    buckets.update_buckets(moves.as_slice())?;
+    let candidates = renewed(alloc, packs, holders, touched.as_slice(), bucket, marks, by)?;
+    Ok(Kept {
+        at: Standing {
+            round: next,
+            bids: bid_seat,
+            owners: owner_seat,
+        },
+        candidates,
+    })
+}
+
+/// These sets, each once, in increasing order.
+fn ordered(alloc: Global, n: u32, sets: Vec<u32>) -> Result<Vec<u32>, AllocError>
+    requires few { n ≤ MAX_N }
+    requires in_range { All (λ s. s < n) sets.items }
+
+    ensures increasing { IfOk result (λ r. IsStrictlyIncreasing r.items) }
+    ensures in_range { IfOk result (λ r. All (λ s. s < n) r.items) }
+    ensures same { IfOk result (λ r. (s : ℕ) → Contains r.items s ↔ Contains sets.items s) }
+{
+    let subset = VertexSubset::from_unordered(alloc, n, sets)?;
+    let ids = subset.ids()?;
+    Ok(ids)
+}
+
+/// The winner of each element of the chosen sets bids for what is left of it.
+fn bid_for<R: Threads + Sync, G: Gate>(
+    rt: &R,
+    alloc: Global,
+    team: &Team<'_, G>,
+    packs: &PackedSets,
+    holders: &InRows,
+    chosen: &[u32],
+    bucket: u64,
+    t: u64,
+    words: &MinWords,
+    seat: MinSeat,
+) -> Result<MinSeat, AllocError>
+    requires packed { ArePacked packs.now }
+    requires within { AreWithin packs.now.n holders.now }
+    requires in_range { All (λ s. s < packs.now.n) chosen.now }
+    requires few { t ≤ MAX_N }
+    requires root { IsRootOf packs.now.n words.now seat }
+
+    ensures { IfOk result (λ r. HasBid (pack_at packs.now) holders.now bucket chosen.now (bid_base t) seat r) }
+{
+    let winners = winners_among(alloc, packs, holders, chosen, bucket)?;
+    let bidders = ordered(alloc, packs.n, winners)?;
+    let work = work_of(packs, bidders.as_slice());
+    let members = VertexSubset::from_increasing(alloc, packs.n, bidders);
+    let base = base_of(t);
+    let seat = offer_all(rt, alloc, team, packs, &members, work, base, words, seat)?;
+    Ok(seat)
+}
+
+/// Packs the touched sets, and gives the winners of what is left of those that had been large.
+fn renewed(
+    alloc: Global,
+    packs: &mut PackedSets,
+    holders: &InRows,
+    touched: &[u32],
+    bucket: u64,
+    marks: &[bool],
+    by: &[u64],
+) -> Result<Vec<u32>, AllocError>
+    requires packed { ArePacked packs.old }
+    requires within { AreWithin packs.old.n holders.now }
+    requires in_range { All (λ s. s < packs.old.n) touched.now }
+    requires marks { AreOpen marks.now by.now }
+    requires by { length by.now ≡ packs.old.n }
+
+    ensures packed { IfOk result (λ _. HasPacked by.now touched.now packs.old packs.new) }
+    ensures winners { IfOk result (λ r. (s : ℕ) → Contains r.items s
+        ↔ Contains (winners_of (pack_at packs.new) holders.now bucket
+        (active_of (pack_at packs.old) bucket touched.now)) s) }
+    ensures increasing { IfOk result (λ r. IsStrictlyIncreasing r.items) }
+    ensures in_range { IfOk result (λ r. All (λ s. s < packs.new.n) r.items) }
+{
+    let large = active_sets(alloc, packs, touched, bucket)?;
+    pack_each(packs, touched, marks, by);
+    let winners = winners_among(alloc, packs, holders, large.as_slice(), bucket)?;
+    let candidates = ordered(alloc, packs.n, winners)?;
+    Ok(candidates)
+}

@@ -1,0 +1,101 @@
+//! Draw after draw over sets that are kept packed, till no set is in a bucket.
+ghost use Rattle.std.specs.Prelude.{◌≡◌, ℕ, ◌<◌, ◌≤◌, length, IfOk};
+ghost use Rattle.jul_base.specs.Numbers.{below};
+ghost use Rattle.jul_bucket.specs.Places.{AllNone};
+ghost use Rattle.jul_cover.specs.PackedSets.{AreOpen};
+ghost use Rattle.jul_cover.specs.CoverWork.{IsCovering};
+ghost use Rattle.jul_cover.specs.Keeping.{AreHolders};
+ghost use Rattle.jul_cover.specs.KeptTurns.{candidates_for};
+
+use crate::keeping::{Kept, take_kept_turn};
+use crate::packed_sets::PackedSets;
+use crate::packing::pack_each;
+use crate::turns::Standing;
+use jul_base::Gate;
+use jul_bucket::Buckets;
+use jul_pool::Team;
+use jul_rows::{InRows, SetRows};
+use jul_words::MinWords;
+use std::alloc::{AllocError, Global};
+use std::thread::Threads;
+
+/// Packs all sets, and then draws bucket after bucket till no set is in a bucket. A turn costs the drawn sets and what it
+/// changes.
+pub(crate) fn kept_rounds<R: Threads + Sync, G: Gate>(
+    rt: &R,
+    alloc: Global,
+    team: &Team<'_, G>,
+    sets: &SetRows,
+    holders: &InRows,
+    packs: &mut PackedSets,
+    bids: &MinWords,
+    owners: &MinWords,
+    at: Standing,
+    round: &mut [u64],
+    by: &mut [u64],
+    marks: &mut [bool],
+    buckets: &mut Buckets,
+) -> Result<Standing, AllocError>
+    requires covering { IsCovering sets.now bids.now owners.now at.bids.home at.owners.home packs.old round.old by.old
+        (record { round = at.round; bids = at.bids; owners = at.owners }) buckets.old }
+    requires holders { AreHolders sets.now holders.now }
+    requires marks { AreOpen marks.old by.old }
+
+    ensures covering { IfOk result (λ r. IsCovering sets.now bids.now owners.now at.bids.home at.owners.home
+        packs.new round.new by.new (record { round = r.round; bids = r.bids; owners = r.owners }) buckets.new) }
+    ensures none_left { IfOk result (λ _. AllNone buckets.new.places) }
+{
+    prove!(sets.n() <= jul_base::MAX_N);
+    let mut at = at;
+    let mut last = 0;
+    let mut known = every_set(alloc, sets.n())?;
+    let every = known.as_slice();
+    pack_each(packs, every, marks, by);
+    'rounds: loop {
+        let Some((bucket, drawn)) = buckets.next_bucket()? else {
+            return Ok(at);
+        };
+        let ids = drawn.as_slice();
+        let candidates = candidates_of(alloc, known, last, ids, bucket)?;
+        let listed = candidates.as_slice();
+        let kept = take_kept_turn(
+            rt, alloc, team, packs, holders, listed, ids, bucket, bids, owners, at, round, by,
+            marks, buckets,
+        )?;
+        let Kept {
+            at: next,
+            candidates: winners,
+        } = kept;
+        at = next;
+        known = winners;
+        last = bucket;
+    }
+}
+
+/// The numbers of `n` sets.
+fn every_set(alloc: Global, n: u32) -> Result<Vec<u32>, AllocError>
+    ensures { IfOk result (λ sets. sets.items ≡ below n) }
+{
+    let mut sets = Vec::with_capacity(alloc, n as usize)?;
+    for s in 0..n {
+        sets.push(s)?;
+    }
+    Ok(sets)
+}
+
+/// Who may be chosen: those that are known where the bucket is the last one, else all that were drawn.
+fn candidates_of(
+    alloc: Global,
+    known: Vec<u32>,
+    last: u64,
+    drawn: &[u32],
+    bucket: u64,
+) -> Result<Vec<u32>, AllocError>
+    ensures { IfOk result (λ r. r.items ≡ candidates_for last bucket known.items drawn.now) }
+{
+    if last == bucket {
+        Ok(known)
+    } else {
+        Vec::from_slice(alloc, drawn)
+    }
+}
