@@ -1,12 +1,16 @@
 //! Pairs of vertices from the words of a generator.
 ghost use Rattle.std.specs.Prelude.{◌≡◌, ◌<◌, ◌≤◌, [], ◌∷◌};
-ghost use Rattle.jul_adj.specs.Generated.{word, next_state, pair_at, after_pair};
+ghost use Rattle.jul_adj.specs.Generated.{word, next_state, state_at, pair_at, after_pair};
 
 use rand_xoshiro::SplitMix64;
+use rand_xoshiro::rand_core::SeedableRng;
 use rand_xoshiro::rand_core::utils::NextWord;
 
 /// The weights are 1 to as many.
 const WEIGHTS: u64 = 100;
+
+/// What SplitMix64 adds to its state for each word.
+const STEP: u64 = 0x9e37_79b9_7f4a_7c15;
 
 /// An entry in the row of a vertex.
 #[derive(Clone, Copy)]
@@ -17,6 +21,14 @@ pub struct Entry {
     pub target: u32,
     /// Its weight.
     pub weight: u32,
+}
+
+/// The generator of a seed behind so many pairs.
+pub fn generator_at(seed: u64, pairs: u32) -> SplitMix64
+    ensures { result ≡ state_at pairs seed }
+{
+    let words = 3 * u64::from(pairs);
+    SplitMix64::seed_from_u64(seed.wrapping_add(words.wrapping_mul(STEP)))
 }
 
 // The next word of the generator.
