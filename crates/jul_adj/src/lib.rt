@@ -16,6 +16,7 @@ mod joining;
 mod lists;
 mod reading;
 mod readings;
+mod remainders;
 mod rules;
 mod sizes;
 mod spares;
