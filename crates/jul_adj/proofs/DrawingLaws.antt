@@ -1,15 +1,12 @@
 -- Pairs that are drawn: one pair more, how many entries there are, and what each of them keeps.
-use Rattle.std.proofs.Common.{◌≡◌, ℕ, zero, suc, ◌+◌, ◌-◌, ◌*◌, ◌%◌, ◌<◌, ◌≤◌, List, [], ◌∷◌, ◌++◌, length, sym, ◌∙◌, ap, refl, arith, mod-lt}
+use Rattle.std.proofs.Common.{◌≡◌, ℕ, zero, suc, ◌+◌, ◌-◌, ◌*◌, ◌%◌, ◌^◌, ◌<◌, ◌≤◌, List, [], ◌∷◌, ◌++◌, length, sym, ◌∙◌, ap, refl, arith, mod-lt}
 use Rattle.std.specs.List.{All}
 use Rattle.std.proofs.lemmas.List.{append_assoc, append-nil, length-append}
 use Rattle.std.proofs.lemmas.List.Elements.{All-nil, All-cons, All-append}
 use Rattle.jul_adj.specs.declared.drawing.Entry.{Entry}
-use Rattle.jul_adj.specs.Generated.{drawn, pair_at, after_pair, word, next_state}
+use Rattle.jul_adj.specs.Generated.{drawn, state_at, pair_at, after_pair, word, next_state}
 
--- the state of the generator after some pairs
-unfoldable pub state_at : ℕ → ℕ → ℕ
-state_at zero state = state
-state_at (suc pairs) state = state_at pairs (after_pair state)
+-- ---- the state after some pairs
 
 pub state_at-zero : (state : ℕ) → state_at 0 state ≡ state
 unfolding state_at
@@ -29,6 +26,38 @@ state_at-more (suc pairs) state =
     ∙ state_at-suc (pairs + 1) state
     ∙ state_at-more pairs (after_pair state)
     ∙ sym (ap after_pair (state_at-suc pairs state))
+
+pub state_at-add : (i j state : ℕ) → state_at j (state_at i state) ≡ state_at (i + j) state
+state_at-add zero j state =
+    let none : 0 + j ≡ j = omega arith in
+    ap (state_at j) (state_at-zero state) ∙ sym (ap (λ k. state_at k state) none)
+state_at-add (suc i) j state =
+    let next : suc i + j ≡ suc (i + j) = omega arith in
+    ap (state_at j) (state_at-suc i state)
+    ∙ state_at-add i j (after_pair state)
+    ∙ sym (state_at-suc (i + j) state)
+    ∙ sym (ap (λ k. state_at k state) next)
+
+pub next_state-is : (state : ℕ) → next_state state ≡ (state + 11400714819323198485) % 2 ^ 64
+unfolding next_state
+next_state-is state = refl
+
+-- three words add three steps
+after_pair-is : (state : ℕ) → after_pair state ≡ (state + 34202144457969595455) % 2 ^ 64
+after_pair-is state =
+    omega (
+      arith,
+      next_state-is (next_state (next_state state)),
+      next_state-is (next_state state),
+      next_state-is state,
+    )
+
+pub state_at-is : (pairs state : ℕ) → state < 2 ^ 64 → state_at pairs state ≡ (state + pairs * 34202144457969595455) % 2 ^ 64
+state_at-is zero state small = state_at-zero state ∙ omega (arith, small)
+state_at-is (suc pairs) state small =
+    let after : ℕ = after_pair state in
+    let after_is : after ≡ (state + 34202144457969595455) % 2 ^ 64 = after_pair-is state in
+    state_at-suc pairs state ∙ state_at-is pairs after (omega (arith, after_is)) ∙ omega (arith, after_is)
 
 pub drawn-zero : (n state : ℕ) → drawn n 0 state ≡ []
 unfolding drawn

@@ -1,5 +1,5 @@
 -- The graph that is generated from a seed.
-use Rattle.std.specs.Prelude.{ℕ, zero, suc, true, ◌+◌, ◌%◌, List, [], ◌∷◌, ◌++◌, map}
+use Rattle.std.specs.Prelude.{ℕ, zero, suc, true, ◌+◌, ◌-◌, ◌*◌, ◌%◌, min, List, [], ◌∷◌, ◌++◌, map}
 use Rattle.rand_xoshiro.specs.SplitMix64.{mix_u64}
 use Rattle.jul_base.specs.Numbers.{below}
 use Rattle.jul_base.specs.declared.graphs.RawGraph.{RawGraph}
@@ -25,10 +25,19 @@ pair_at n state = pair_of n (word state) (word (next_state state)) (word (next_s
 abbrev pub after_pair : ℕ → ℕ
 after_pair state = next_state (next_state (next_state state))
 
+-- the state after some pairs
+unfoldable pub state_at : ℕ → ℕ → ℕ
+state_at zero state = state
+state_at (suc pairs) state = state_at pairs (after_pair state)
+
 -- the entries of some pairs, in the order in which they are drawn
 unfoldable pub drawn : ℕ → ℕ → ℕ → List Entry
 drawn n zero state = []
 drawn n (suc pairs) state = pair_at n state ++ drawn n pairs (after_pair state)
+
+-- those of the pairs that a chunk has, where each chunk but the last has so many
+abbrev pub drawn_in : ℕ → ℕ → ℕ → ℕ → ℕ → List Entry
+drawn_in n pairs seed size chunk = drawn n (min size (pairs - chunk * size)) (state_at (chunk * size) seed)
 
 -- the weighted graph of n vertices whose rows have these entries, each row in the order in which they are given
 unfoldable pub graph_of : ℕ → List Entry → RawGraph

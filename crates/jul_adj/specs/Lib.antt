@@ -12,3 +12,5 @@ pub mod Streaming
 pub mod Texts
 pub mod Spreading
 pub mod Generated
+pub mod Parts
+pub mod Joining

@@ -9,21 +9,25 @@
 mod cutting;
 mod drawing;
 mod faults;
+mod filling;
 mod generating;
 mod intakes;
+mod joining;
 mod lists;
 mod reading;
 mod readings;
+mod remainders;
 mod rules;
 mod sizes;
 mod spares;
+mod spreading;
 mod storing;
 mod streaming;
 mod values;
 mod writing;
 
 pub use faults::{Fault, FaultKind, ReadError, StreamError};
-pub use generating::generate;
+pub use generating::{generate, generate_by};
 pub use reading::read_graph;
 pub use streaming::{MAX_BLOCK, read_stream};
 pub use writing::write_graph;

@@ -2,8 +2,8 @@
 ghost use Rattle.std.specs.Prelude.{◌≤◌};
 
 use crate::{
-    Fault, FaultKind, MAX_BLOCK, ReadError, StreamError, generate, read_graph, read_stream,
-    write_graph,
+    Fault, FaultKind, MAX_BLOCK, ReadError, StreamError, generate, generate_by, read_graph,
+    read_stream, write_graph,
 };
 use jul_base::{MemShelf, MemSink, OpenGate};
 use jul_pool::Team;
@@ -87,6 +87,30 @@ fn a_seed_gives_its_graph(rt: HostRuntime) -> Result<(), Fail> {
         3761, 2045, 1522, 784, 1950, 1737, 533, 3519, 2465, 235, 4739, 4555,
     ];
     assert_eq!(rt; graph.targets.as_slice(), targets.as_slice());
+    Ok(())
+}
+
+#[test]
+fn workers_make_the_same_graph(rt: HostRuntime) -> Result<(), Fail> {
+    for (n, pairs, seed) in [
+        (1, 3, 7),
+        (5000, 6, 1),
+        (20_000, 30_001, u64::MAX),
+        (9, 40_000, 2),
+    ] {
+        let alone = generate(rt.alloc(), n, pairs, seed)?;
+        for workers in [1, 3, 4] {
+            let team = Team {
+                workers,
+                chunk: 256,
+                gate: &OpenGate,
+            };
+            let graph = generate_by(&rt, rt.alloc(), &team, n, pairs, seed)?;
+            assert_eq!(rt; graph.offsets.as_slice(), alone.offsets.as_slice());
+            assert_eq!(rt; graph.targets.as_slice(), alone.targets.as_slice());
+            assert_eq!(rt; graph.weights.as_slice(), alone.weights.as_slice());
+        }
+    }
     Ok(())
 }
 

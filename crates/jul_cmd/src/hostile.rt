@@ -345,8 +345,11 @@ fn each_cut_of_a_file_is_told(rt: HostRuntime) -> Result<(), Fail> {
     Ok(())
 }
 
-/// So many turns a held worker waits in all.
+/// So many turns a held worker waits at a pass.
 const TURNS: u64 = 1000;
+
+/// So many turns the held workers wait in all: some are left once a graph is made.
+const ALL_TURNS: u64 = 10_000;
 
 /// Holds the workers below a number for the first turns.
 #[derive(Drop)]
@@ -361,7 +364,7 @@ impl Gate for HoldGate {
             return;
         }
         for _ in 0..TURNS {
-            if self.turns.fetch_add(1, Ordering::SeqCst) >= TURNS {
+            if self.turns.fetch_add(1, Ordering::SeqCst) >= ALL_TURNS {
                 return;
             }
             thread::yield_now();

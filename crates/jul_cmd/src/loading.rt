@@ -12,7 +12,7 @@ ghost use Rattle.jul_cmd.specs.Parts.{IsUnloaded, IsGraphUnread, IsWitnessUnread
 
 use crate::resources::Resources;
 use crate::statuses::{Status, Which};
-use jul_adj::{generate, read_stream};
+use jul_adj::{generate_by, read_stream};
 use jul_base::{Gate, LoadError, MAX_BYTES, Shelf, load_all};
 use jul_query::Input;
 use jul_rows::Rows;
@@ -96,7 +96,14 @@ pub fn load_input<R: Threads + Sync, G: Gate, F: Shelf>(
             })
         }
         Input::Generated { n, pairs, seed } => {
-            let graph = generate(resources.alloc, n, pairs, seed)?;
+            let graph = generate_by(
+                resources.rt,
+                resources.alloc,
+                &resources.team,
+                n,
+                pairs,
+                seed,
+            )?;
             Ok(Loaded {
                 rows: Rows::of(graph),
                 is_symmetric: true,
