@@ -1,5 +1,6 @@
 //! Peeling, bucket after bucket.
-ghost use Rattle.std.specs.Prelude.{◌≡◌, length, IfOk};
+ghost use Rattle.std.specs.Prelude.{◌≡◌, ◌<◌, ◌≤◌, ◌^◌, length, All, IfOk};
+ghost use Rattle.jul_base.specs.Graph.{vertices};
 ghost use Rattle.jul_base.specs.Symmetry.{IsSymmetric};
 ghost use Rattle.jul_bucket.specs.Places.{AllNone};
 ghost use Rattle.jul_core.specs.PeelWork.{IsPeeling, CanRound, HasRound};
@@ -48,6 +49,51 @@ pub(crate) fn peel_rounds<R: Threads + Sync, G: Gate>(
     }
 }
 
+/// So many members are looked at to see whether most places of a round lead to one vertex.
+const PROBES: usize = 32;
+
+/// Where more than so many of them lead to one vertex, most places are taken to do so.
+const MOST_ALIKE: u32 = 16;
+
+/// Whether most places of the drawn vertices lead to one vertex, as far as the first places of a few show. All adds are then
+/// made at one word, where several workers would wait for one another at each.
+fn leads_to_one(rows: &Rows, drawn: &[u32]) -> bool
+    requires within { All (λ v. v < vertices rows.now) drawn.now }
+{
+    let step = drawn.len() / PROBES;
+    if step == 0 {
+        return false;
+    }
+    let first = first_target(rows, drawn[0]);
+    let mut alike = 0u32;
+    for k in 0..PROBES {
+        if let Some(v) = drawn.get(k.saturating_mul(step)) {
+            if first_target(rows, *v) == first {
+                alike = alike.saturating_add(1);
+            }
+        }
+    }
+    alike > MOST_ALIKE
+}
+
+/// Where the first place of a vertex leads, if it has one.
+fn first_target(rows: &Rows, v: u32) -> Option<u32>
+    requires vertex { v < vertices rows.now }
+{
+    rows.row(v).first().copied()
+}
+
+/// The work of a round that several workers may share. It is 0, and not counted, where one is to do all.
+fn work_to_share(workers: u32, rows: &Rows, drawn: &[u32]) -> u64
+    requires few { length drawn.now ≤ 2 ^ 24 }
+    requires within { All (λ v. v < vertices rows.now) drawn.now }
+{
+    if workers == 1 || leads_to_one(rows, drawn) {
+        return 0;
+    }
+    reach_of(rows, drawn)
+}
+
 /// Moves each vertex that is in a bucket down by the number of places that lead to it from the drawn ones, but not below
 /// the bucket drawn. The places are counted by as many workers as they are worth.
 fn lower_reached<R: Threads + Sync, G: Gate>(
@@ -66,12 +112,7 @@ fn lower_reached<R: Threads + Sync, G: Gate>(
     ensures { IfOk result (λ r. HasRound rows.now bucket drawn.items seat r buckets.old buckets.new) }
 {
     let n = rows.n();
-    // One worker needs no count of the work.
-    let work = if team.workers == 1 {
-        0
-    } else {
-        reach_of(rows, drawn.as_slice())
-    };
+    let work = work_to_share(team.workers, rows, drawn.as_slice());
     let crew = team.for_work(work);
     let from = VertexSubset::from_increasing(alloc, n, drawn);
     let (list, seat) = edge_map_count(rt, alloc, &crew, rows, &from, counts, seat)?;

@@ -6,8 +6,8 @@ use Rattle.jul_core.proofs.TurnLaws.{can_lower, counts_few}
 use Rattle.jul_core.proofs.MovingLaws.{moves_in, moves_ahead}
 use Rattle.jul_core.proofs.rounds.lower_reached.Goals as goal
 
-pub reach_of-work-requires-clause-few : goal.reach_of-work-requires-clause-few
-reach_of-work-requires-clause-few g c =
+pub work_to_share-work-requires-clause-few : goal.work_to_share-work-requires-clause-few
+work_to_share-work-requires-clause-few g c =
     let most : length c.args.drawn.items ≤ vertices c.args.rows.now = length_below c.args.drawn.items (vertices c.args.rows.now) c.requires.can.increasing c.requires.can.within in
     omega (arith, most, c.n-n.ensures.lawful.few_vertices, ap length c.as_slice.ensures.value)
 
