@@ -7,5 +7,6 @@ pub mod SourceLaws
 pub mod PartLaws
 pub mod ReadBackLaws
 pub mod ResultLaws
+pub mod WritingLaws
 pub mod Rows
 pub mod SummaryRows

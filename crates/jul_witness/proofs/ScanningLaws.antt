@@ -67,9 +67,11 @@ trailing_is heading bytes at j len t f clean last first e = fault_is heading byt
 -- ---- columns
 
 -- one more number of a column
-pub column_push : (heading : Heading) (ws : List Word) (k v column j x : ℕ) → columns_of heading.form ≡ k → j ≡ front heading ws + k * v + column →
-    entry_of heading.form (text_at ws j) ≡ Some x → column_of heading ws v column ++ x ∷ [] ≡ column_of heading ws (v + 1) column
-column_push heading ws k v column j x width place entry =
+pub column_pushed : (heading : Heading) (ws : List Word) (k v column j x : ℕ) (old new : List ℕ) → columns_of heading.form ≡ k → j ≡ front heading ws + k * v + column →
+    entry_of heading.form (text_at ws j) ≡ Some x → old ≡ column_of heading ws v column → new ≡ old ++ x ∷ [] → new ≡ column_of heading ws (v + 1) column
+column_pushed heading ws k v column j x old new width place entry before pushed =
     let here : front heading ws + columns_of heading.form * v + column ≡ j = ap (λ (c : ℕ). front heading ws + c * v + column) width ∙ sym place in
     let value : entry_at heading ws column v ≡ x = ap (λ (i : ℕ). unwrap_or (entry_of heading.form (text_at ws i)) 0) here ∙ ap (λ (o : Option ℕ). unwrap_or o 0) entry in
-    sym (map-range_with_len_more (entry_at heading ws column) 0 v v (omega arith) ∙ ap (λ (y : ℕ). column_of heading ws v column ++ y ∷ []) value)
+    let more : column_of heading ws (v + 1) column ≡ column_of heading ws v column ++ x ∷ [] =
+    map-range_with_len_more (entry_at heading ws column) 0 v v (omega arith) ∙ ap (λ (y : ℕ). column_of heading ws v column ++ y ∷ []) value in
+    pushed ∙ ap (λ (xs : List ℕ). xs ++ x ∷ []) before ∙ sym more

@@ -1,15 +1,16 @@
 //! The columns of a witness file.
-ghost use Rattle.std.specs.Prelude.{◌≡◌, ◌+◌, ◌*◌, ◌<◌, ◌≤◌, ◌^◌, length, Some, IfOk, IfErr, Err};
+ghost use Rattle.std.specs.Prelude.{◌≡◌, ◌+◌, ◌*◌, ◌<◌, ◌≤◌, ◌^◌, length, Some, IfOk, IfErr, OnOk, Ok, Err};
 ghost use Rattle.jul_text.specs.Tokens.{tokens};
 ghost use Rattle.jul_text.specs.Scanning.{text_at};
 ghost use Rattle.jul_witness.specs.Forms.{columns_of};
 ghost use Rattle.jul_witness.specs.Roles.{front, all_tokens};
-ghost use Rattle.jul_witness.specs.Reading.{entry_of, column_of, read_tokens, Fails};
+ghost use Rattle.jul_witness.specs.Reading.{entry_of, column_of, witness_of, read_tokens, Fails};
 ghost use Rattle.jul_witness.specs.Scanning.{IsClean};
 
 use crate::faults::{WitnessError, WitnessFault};
 use crate::forms::Heading;
-use crate::scanning::{Place, next_entry};
+use crate::scanning::{Place, expect_end, next_entry};
+use jul_base::Column;
 use std::alloc::Global;
 
 /// For how many of `n` rows with `width` numbers each to take room: a short file may ask for many more than
@@ -50,23 +51,23 @@ fn next_pair(
     Ok(((first, second), place))
 }
 
-/// Two columns of n numbers each.
+/// Two columns of n numbers each, and nothing behind them.
 pub(crate) fn read_pairs(
     alloc: Global,
     bytes: &[u8],
     mut place: Place,
     heading: Heading,
     n: u64,
-) -> Result<((Vec<u64>, Vec<u64>), Place), WitnessError>
+) -> Result<(Column, Column), WitnessError>
     requires clean { IsClean heading bytes.now place.at place.token }
     requires start { place.token ≡ front heading (tokens bytes.now) }
     requires columns { columns_of heading.form ≡ 2 }
     requires asked { all_tokens heading (tokens bytes.now) ≡ place.token + 2 * n }
 
-    ensures first { IfOk result (λ r. r.0.0.items ≡ column_of heading (tokens bytes.now) n 0) }
-    ensures second { IfOk result (λ r. r.0.1.items ≡ column_of heading (tokens bytes.now) n 1) }
-    ensures next { IfOk result (λ r. IsClean heading bytes.now r.1.at r.1.token) }
-    ensures token { IfOk result (λ r. r.1.token ≡ all_tokens heading (tokens bytes.now)) }
+    ensures first { IfOk result (λ r. r.0 ≡ column_of heading (tokens bytes.now) n 0) }
+    ensures second { IfOk result (λ r. r.1 ≡ column_of heading (tokens bytes.now) n 1) }
+    ensures whole { OnOk result (read_tokens (tokens bytes.now) (length bytes.now)
+        ≡ Ok (witness_of heading (tokens bytes.now))) }
 
     ensures err { IfErr result (λ e. Fails e (read_tokens (tokens bytes.now) (length bytes.now))) }
 {
@@ -79,7 +80,8 @@ pub(crate) fn read_pairs(
         seconds.push(second)?;
         place = next;
     }
-    Ok(((firsts, seconds), place))
+    expect_end(bytes, place, heading)?;
+    Ok((Column::from_vec(firsts), Column::from_vec(seconds)))
 }
 
 // The next three numbers.
@@ -110,24 +112,24 @@ fn next_triple(
     Ok(((first, second, third), place))
 }
 
-/// Three columns of n numbers each.
+/// Three columns of n numbers each, and nothing behind them.
 pub(crate) fn read_triples(
     alloc: Global,
     bytes: &[u8],
     mut place: Place,
     heading: Heading,
     n: u64,
-) -> Result<((Vec<u64>, Vec<u64>, Vec<u64>), Place), WitnessError>
+) -> Result<(Column, Column, Column), WitnessError>
     requires clean { IsClean heading bytes.now place.at place.token }
     requires start { place.token ≡ front heading (tokens bytes.now) }
     requires columns { columns_of heading.form ≡ 3 }
     requires asked { all_tokens heading (tokens bytes.now) ≡ place.token + 3 * n }
 
-    ensures first { IfOk result (λ r. r.0.0.items ≡ column_of heading (tokens bytes.now) n 0) }
-    ensures second { IfOk result (λ r. r.0.1.items ≡ column_of heading (tokens bytes.now) n 1) }
-    ensures third { IfOk result (λ r. r.0.2.items ≡ column_of heading (tokens bytes.now) n 2) }
-    ensures next { IfOk result (λ r. IsClean heading bytes.now r.1.at r.1.token) }
-    ensures token { IfOk result (λ r. r.1.token ≡ all_tokens heading (tokens bytes.now)) }
+    ensures first { IfOk result (λ r. r.0 ≡ column_of heading (tokens bytes.now) n 0) }
+    ensures second { IfOk result (λ r. r.1 ≡ column_of heading (tokens bytes.now) n 1) }
+    ensures third { IfOk result (λ r. r.2 ≡ column_of heading (tokens bytes.now) n 2) }
+    ensures whole { OnOk result (read_tokens (tokens bytes.now) (length bytes.now)
+        ≡ Ok (witness_of heading (tokens bytes.now))) }
 
     ensures err { IfErr result (λ e. Fails e (read_tokens (tokens bytes.now) (length bytes.now))) }
 {
@@ -142,5 +144,10 @@ pub(crate) fn read_triples(
         thirds.push(third)?;
         place = next;
     }
-    Ok(((firsts, seconds, thirds), place))
+    expect_end(bytes, place, heading)?;
+    Ok((
+        Column::from_vec(firsts),
+        Column::from_vec(seconds),
+        Column::from_vec(thirds),
+    ))
 }

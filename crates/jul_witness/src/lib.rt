@@ -11,6 +11,7 @@ mod columns;
 mod faults;
 mod forms;
 mod heads;
+mod laws;
 mod lines;
 mod reading;
 mod rules;

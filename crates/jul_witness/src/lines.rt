@@ -1,6 +1,5 @@
 //! The parts of a text of a result: its first two lines, that of the sources, and a line for each vertex.
-ghost use Rattle.std.specs.Prelude.{◌≡◌, ◌^◌, ◌<◌, ◌≤◌, [], ◌∷◌, ◌++◌, length, codes, OnOk, OnErr};
-ghost use Rattle.std.specs.List.{All};
+ghost use Rattle.std.specs.Prelude.{◌≡◌, ◌≤◌, [], ◌∷◌, ◌++◌, length, codes, OnOk, OnErr};
 ghost use Rattle.jul_base.specs.Sinks.{FailedWriting, IsSent};
 ghost use Rattle.jul_text.specs.Lines.{line_of};
 ghost use Rattle.jul_witness.specs.Forms.{word_of};
@@ -37,18 +36,37 @@ fn first_line(form: Form) -> &'static [u8]
     }
 }
 
-/// Puts the number of sources and the sources on a line.
-pub(crate) fn put_sources<S: Sink>(
+/// Puts the line of the sources, and behind it a line for each vertex, of its numbers in three columns.
+pub(crate) fn put_distances<S: Sink>(
     block: &mut TextBlock,
     sink: &mut S,
     sources: &[u32],
+    first: &[u64],
+    second: &[u64],
+    third: &[u64],
 ) -> Result<(), Failed>
+    requires second { length second.now ≡ length first.now }
+    requires third { length third.now ≡ length first.now }
+
+    ensures ok { OnOk result (IsSent (S.state sink.old) (S.state sink.new) block.new
+        (block.old ++ (sources_line sources.now
+        ++ vertex_lines (first.now ∷ second.now ∷ third.now ∷ []) (length first.now)))) }
+    ensures err { OnErr result (FailedWriting (S.state sink.old) (S.state sink.new)
+        (block.old ++ (sources_line sources.now
+        ++ vertex_lines (first.now ∷ second.now ∷ third.now ∷ []) (length first.now)))) }
+    ensures faults { (S.state sink.old).faults ≤ (S.state sink.new).faults }
+{
+    put_sources(block, sink, sources)?;
+    put_triples(block, sink, first, second, third)
+}
+
+// Puts the number of sources and the sources on a line.
+fn put_sources<S: Sink>(block: &mut TextBlock, sink: &mut S, sources: &[u32]) -> Result<(), Failed>
     ensures ok { OnOk result (IsSent (S.state sink.old) (S.state sink.new) block.new
         (block.old ++ sources_line sources.now)) }
     ensures err { OnErr result (FailedWriting (S.state sink.old) (S.state sink.new)
         (block.old ++ sources_line sources.now)) }
     ensures faults { (S.state sink.old).faults ≤ (S.state sink.new).faults }
-    ensures numbers { All (λ s. s < 2 ^ 32) sources.now }
 {
     put_number(block, sink, sources.len() as u64)?;
     put_rest(block, sink, sources)
@@ -61,7 +79,6 @@ fn put_rest<S: Sink>(block: &mut TextBlock, sink: &mut S, numbers: &[u32]) -> Re
     ensures err { OnErr result (FailedWriting (S.state sink.old) (S.state sink.new)
         (block.old ++ (spaced_values numbers.now ++ codes "\n"))) }
     ensures faults { (S.state sink.old).faults ≤ (S.state sink.new).faults }
-    ensures numbers { All (λ s. s < 2 ^ 32) numbers.now }
 {
     put_each(block, sink, numbers)?;
     block.put(sink, b"\n")
@@ -74,7 +91,6 @@ fn put_each<S: Sink>(block: &mut TextBlock, sink: &mut S, numbers: &[u32]) -> Re
     ensures err { OnErr result (FailedWriting (S.state sink.old) (S.state sink.new)
         (block.old ++ spaced_values numbers.now)) }
     ensures faults { (S.state sink.old).faults ≤ (S.state sink.new).faults }
-    ensures numbers { All (λ s. s < 2 ^ 32) numbers.now }
 {
     for number in numbers {
         put_spaced(block, sink, u64::from(*number))?;
@@ -107,8 +123,6 @@ pub(crate) fn put_pairs<S: Sink>(
     ensures err { OnErr result (FailedWriting (S.state sink.old) (S.state sink.new)
         (block.old ++ vertex_lines (first.now ∷ second.now ∷ []) (length first.now))) }
     ensures faults { (S.state sink.old).faults ≤ (S.state sink.new).faults }
-    ensures first { All (λ x. x < 2 ^ 64) first.now }
-    ensures second { All (λ x. x < 2 ^ 64) second.now }
 {
     for v in 0..first.len() {
         put_pair(block, sink, first[v], second[v])?;
@@ -132,8 +146,8 @@ fn put_pair<S: Sink>(
     put_value(block, sink, second, b"\n")
 }
 
-/// Puts a line for each vertex, of its numbers in three columns.
-pub(crate) fn put_triples<S: Sink>(
+// Puts a line for each vertex, of its numbers in three columns.
+fn put_triples<S: Sink>(
     block: &mut TextBlock,
     sink: &mut S,
     first: &[u64],
@@ -148,9 +162,6 @@ pub(crate) fn put_triples<S: Sink>(
     ensures err { OnErr result (FailedWriting (S.state sink.old) (S.state sink.new)
         (block.old ++ vertex_lines (first.now ∷ second.now ∷ third.now ∷ []) (length first.now))) }
     ensures faults { (S.state sink.old).faults ≤ (S.state sink.new).faults }
-    ensures first { All (λ x. x < 2 ^ 64) first.now }
-    ensures second { All (λ x. x < 2 ^ 64) second.now }
-    ensures third { All (λ x. x < 2 ^ 64) third.now }
 {
     for v in 0..first.len() {
         put_triple(block, sink, first[v], second[v], third[v])?;

@@ -2,7 +2,6 @@
 ghost use Rattle.std.specs.Prelude.{◌≡◌, ◌<◌, ℕ, length, IfOk, IfErr, OnOk, Ok, Err};
 ghost use Rattle.jul_text.specs.Tokens.{tokens};
 ghost use Rattle.jul_witness.specs.Lawful.{IsLawful, IsLawfulWitness};
-ghost use Rattle.jul_witness.specs.declared.forms.Form.TheVariants as forms;
 ghost use Rattle.jul_witness.specs.Roles.{said_vertices, front};
 ghost use Rattle.jul_witness.specs.Reading.{columns_said, witness_of, read_tokens, reads_witness, Gives, Fails};
 ghost use Rattle.jul_witness.specs.Scanning.{IsClean};
@@ -11,9 +10,9 @@ use crate::columns::{read_pairs, read_triples};
 use crate::faults::{WitnessError, WitnessFault, WitnessKind};
 use crate::forms::{Form, Heading};
 use crate::heads::{read_heading, read_places, read_sources, read_vertices};
-use crate::scanning::{Place, expect_end};
+use crate::scanning::Place;
 use crate::witnesses::{Columns, Witness};
-use jul_base::{Column, Cores, Cover, Distances};
+use jul_base::{Cores, Cover, Distances};
 use std::alloc::Global;
 
 /// Reads the witness of a file, of either version, or tells the first fault.
@@ -45,7 +44,7 @@ pub fn read_witness(alloc: Global, bytes: &[u8], limit: u64) -> Result<Witness, 
     })
 }
 
-// The columns of n vertices, behind the head.
+// The columns of n vertices, behind the head and up to the end.
 fn read_columns(
     alloc: Global,
     bytes: &[u8],
@@ -65,90 +64,17 @@ fn read_columns(
     ensures err { IfErr result (λ e. Fails e (read_tokens (tokens bytes.now) (length bytes.now))) }
 {
     match heading.form {
-        Form::Cores => read_cores(alloc, bytes, place, heading, n),
-        Form::Distances => read_distances(alloc, bytes, place, heading, n),
-        Form::Cover => read_cover(alloc, bytes, place, heading, n),
+        Form::Cores => {
+            let (core, level) = read_pairs(alloc, bytes, place, heading, n)?;
+            Ok(Columns::Cores(Cores { core, level }))
+        }
+        Form::Distances => {
+            let (dist, hops, parent) = read_triples(alloc, bytes, place, heading, n)?;
+            Ok(Columns::Distances(Distances { dist, hops, parent }))
+        }
+        Form::Cover => {
+            let (round, by) = read_pairs(alloc, bytes, place, heading, n)?;
+            Ok(Columns::Cover(Cover { round, by }))
+        }
     }
-}
-
-// The cores of n vertices, behind the head.
-fn read_cores(
-    alloc: Global,
-    bytes: &[u8],
-    place: Place,
-    heading: Heading,
-    n: u64,
-) -> Result<Columns, WitnessError>
-    requires form { heading.form ≡ forms.Cores }
-    requires clean { IsClean heading bytes.now place.at place.token }
-    requires start { place.token ≡ front heading (tokens bytes.now) }
-    requires n { said_vertices (tokens bytes.now) ≡ n }
-
-    ensures value { IfOk result (λ c. c ≡ columns_said heading (tokens bytes.now)) }
-    ensures whole { OnOk result (read_tokens (tokens bytes.now) (length bytes.now)
-        ≡ Ok (witness_of heading (tokens bytes.now))) }
-    ensures lawful { IfOk result IsLawful }
-
-    ensures err { IfErr result (λ e. Fails e (read_tokens (tokens bytes.now) (length bytes.now))) }
-{
-    let ((cores, levels), place) = read_pairs(alloc, bytes, place, heading, n)?;
-    expect_end(bytes, place, heading)?;
-    let core = Column::from_vec(cores);
-    let level = Column::from_vec(levels);
-    Ok(Columns::Cores(Cores { core, level }))
-}
-
-// The distances of n vertices, behind the head.
-fn read_distances(
-    alloc: Global,
-    bytes: &[u8],
-    place: Place,
-    heading: Heading,
-    n: u64,
-) -> Result<Columns, WitnessError>
-    requires form { heading.form ≡ forms.Distances }
-    requires clean { IsClean heading bytes.now place.at place.token }
-    requires start { place.token ≡ front heading (tokens bytes.now) }
-    requires n { said_vertices (tokens bytes.now) ≡ n }
-
-    ensures value { IfOk result (λ c. c ≡ columns_said heading (tokens bytes.now)) }
-    ensures whole { OnOk result (read_tokens (tokens bytes.now) (length bytes.now)
-        ≡ Ok (witness_of heading (tokens bytes.now))) }
-    ensures lawful { IfOk result IsLawful }
-
-    ensures err { IfErr result (λ e. Fails e (read_tokens (tokens bytes.now) (length bytes.now))) }
-{
-    let ((dists, hops, parents), place) = read_triples(alloc, bytes, place, heading, n)?;
-    expect_end(bytes, place, heading)?;
-    let dist = Column::from_vec(dists);
-    let hops = Column::from_vec(hops);
-    let parent = Column::from_vec(parents);
-    Ok(Columns::Distances(Distances { dist, hops, parent }))
-}
-
-// The cover of n vertices, behind the head.
-fn read_cover(
-    alloc: Global,
-    bytes: &[u8],
-    place: Place,
-    heading: Heading,
-    n: u64,
-) -> Result<Columns, WitnessError>
-    requires form { heading.form ≡ forms.Cover }
-    requires clean { IsClean heading bytes.now place.at place.token }
-    requires start { place.token ≡ front heading (tokens bytes.now) }
-    requires n { said_vertices (tokens bytes.now) ≡ n }
-
-    ensures value { IfOk result (λ c. c ≡ columns_said heading (tokens bytes.now)) }
-    ensures whole { OnOk result (read_tokens (tokens bytes.now) (length bytes.now)
-        ≡ Ok (witness_of heading (tokens bytes.now))) }
-    ensures lawful { IfOk result IsLawful }
-
-    ensures err { IfErr result (λ e. Fails e (read_tokens (tokens bytes.now) (length bytes.now))) }
-{
-    let ((rounds, sets), place) = read_pairs(alloc, bytes, place, heading, n)?;
-    expect_end(bytes, place, heading)?;
-    let round = Column::from_vec(rounds);
-    let by = Column::from_vec(sets);
-    Ok(Columns::Cover(Cover { round, by }))
 }

@@ -1,6 +1,5 @@
 //! The writing of results: a word, the sizes of the graph, and for each vertex a line of numbers.
-ghost use Rattle.std.specs.Prelude.{◌≡◌, ℕ, ◌^◌, ◌<◌, ◌≤◌, [], ◌∷◌, length, OnOk, OnErr, Ok};
-ghost use Rattle.std.specs.List.{All};
+ghost use Rattle.std.specs.Prelude.{◌≡◌, ℕ, ◌<◌, ◌≤◌, [], ◌∷◌, length, OnOk, OnErr, Ok};
 ghost use Rattle.jul_base.specs.declared.limits.TheConstants.{MAX_N, MAX_M, MAX_BYTES};
 ghost use Rattle.jul_base.specs.Sinks.{Appended, FailedWriting};
 ghost use Rattle.jul_base.specs.Sources.{AreNamedSources};
@@ -11,7 +10,8 @@ ghost use Rattle.jul_witness.specs.Reading.{reads_witness};
 ghost use Rattle.jul_witness.specs.Texts.{result_text, sources_line, cores_text, distances_text, cover_text, witness_of_columns};
 
 use crate::forms::Form;
-use crate::lines::{put_head, put_pairs, put_sources, put_triples};
+use crate::laws::{fit_32_bits, has_64_bits};
+use crate::lines::{put_distances, put_head, put_pairs};
 use jul_base::{Cores, Cover, Distances, Failed, Sink, TextBlock};
 
 /// Writes cores of a graph of `m` places as text: `Cores2`, the numbers of vertices and places, and a line of
@@ -33,6 +33,8 @@ pub fn write_cores<S: Sink>(sink: &mut S, m: u32, c: &Cores) -> Result<(), Faile
         reads_witness (cores_text m c.now) limit ≡ Ok (witness_of_columns m [] (results.Cores c.now)) }
     ensures short { length (cores_text m c.now) < MAX_BYTES }
 {
+    has_64_bits(&c.core);
+    has_64_bits(&c.level);
     write_pairs(sink, Form::Cores, m, c.core.as_slice(), c.level.as_slice())
 }
 
@@ -64,6 +66,10 @@ pub fn write_distances<S: Sink>(
         ≡ Ok (witness_of_columns m sources.now (results.Distances d.now)) }
     ensures short { length (distances_text m sources.now d.now) < MAX_BYTES }
 {
+    fit_32_bits(sources);
+    has_64_bits(&d.dist);
+    has_64_bits(&d.hops);
+    has_64_bits(&d.parent);
     write_triples(
         sink,
         m,
@@ -94,10 +100,12 @@ pub fn write_cover<S: Sink>(sink: &mut S, m: u32, c: &Cover) -> Result<(), Faile
         reads_witness (cover_text m c.now) limit ≡ Ok (witness_of_columns m [] (results.Cover c.now)) }
     ensures short { length (cover_text m c.now) < MAX_BYTES }
 {
+    has_64_bits(&c.round);
+    has_64_bits(&c.by);
     write_pairs(sink, Form::Cover, m, c.round.as_slice(), c.by.as_slice())
 }
 
-// Writes the text of a result of two columns, whose numbers all have 64 bits.
+// Writes the text of a result of two columns.
 fn write_pairs<S: Sink>(
     sink: &mut S,
     form: Form,
@@ -112,8 +120,6 @@ fn write_pairs<S: Sink>(
     ensures err { OnErr result (FailedWriting (S.state sink.old) (S.state sink.new)
         (result_text form (length first.now) m [] (first.now ∷ second.now ∷ []))) }
     ensures faults { (S.state sink.old).faults ≤ (S.state sink.new).faults }
-    ensures first { All (λ x. x < 2 ^ 64) first.now }
-    ensures second { All (λ x. x < 2 ^ 64) second.now }
 {
     let mut block = TextBlock::new();
     put_head(&mut block, sink, form, first.len(), m)?;
@@ -121,7 +127,7 @@ fn write_pairs<S: Sink>(
     block.flush(sink)
 }
 
-// Writes the text of distances, hops and parents, whose numbers all have 64 bits, and of the sources.
+// Writes the text of distances, hops and parents, and of the sources.
 fn write_triples<S: Sink>(
     sink: &mut S,
     m: u32,
@@ -140,14 +146,9 @@ fn write_triples<S: Sink>(
         (result_text forms.Distances (length first.now) m (sources_line sources.now)
         (first.now ∷ second.now ∷ third.now ∷ []))) }
     ensures faults { (S.state sink.old).faults ≤ (S.state sink.new).faults }
-    ensures first { All (λ x. x < 2 ^ 64) first.now }
-    ensures second { All (λ x. x < 2 ^ 64) second.now }
-    ensures third { All (λ x. x < 2 ^ 64) third.now }
-    ensures sources { All (λ s. s < 2 ^ 32) sources.now }
 {
     let mut block = TextBlock::new();
     put_head(&mut block, sink, Form::Distances, first.len(), m)?;
-    put_sources(&mut block, sink, sources)?;
-    put_triples(&mut block, sink, first, second, third)?;
+    put_distances(&mut block, sink, sources, first, second, third)?;
     block.flush(sink)
 }

@@ -1,14 +1,14 @@
 //! What a witness file holds.
-ghost use Rattle.std.specs.Prelude.{◌≡◌, ◌≤◌, ◌<◌, ◌^◌, length, Ok, OnOk, OnErr};
-ghost use Rattle.std.specs.List.{All};
+ghost use Rattle.std.specs.Prelude.{◌≡◌, ◌≤◌, Ok, OnOk, OnErr};
 ghost use Rattle.jul_base.specs.declared.limits.TheConstants.{MAX_M, MAX_BYTES};
 ghost use Rattle.jul_base.specs.Sinks.{Appended, FailedWriting};
 ghost use Rattle.jul_base.specs.Sources.{AreNamedSources};
 ghost use Rattle.jul_witness.specs.Lawful.{IsLawful};
 ghost use Rattle.jul_witness.specs.Reading.{reads_witness};
 
+use crate::laws::{fit_32_bits, has_64_bits};
 use crate::texts::{write_cores, write_cover, write_distances};
-use jul_base::{Column, Cores, Cover, Distances, Failed, Ids, Sink};
+use jul_base::{Cores, Cover, Distances, Failed, Ids, Sink};
 
 /// A result, by its columns.
 #[derive(Drop)]
@@ -81,25 +81,4 @@ impl Columns {
             }
         }
     }
-}
-
-// A law: the numbers of a column have 64 bits.
-fn has_64_bits(column: &Column)
-    ensures { All (λ x. x < 2 ^ 64) column.now }
-{
-    fit_64_bits(column.as_slice());
-}
-
-// A law: the numbers of a list of 64 bits do.
-fn fit_64_bits(numbers: &[u64])
-    ensures { All (λ x. x < 2 ^ 64) numbers.now }
-{
-    let _numbers = numbers;
-}
-
-// A law: the numbers of a list of 32 bits do.
-fn fit_32_bits(numbers: &[u32])
-    ensures { All (λ x. x < 2 ^ 32) numbers.now }
-{
-    let _numbers = numbers;
 }

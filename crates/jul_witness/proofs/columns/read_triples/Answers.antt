@@ -1,6 +1,6 @@
-use Rattle.std.proofs.Common.{ℕ, List, ◌+◌, ◌++◌, ◌∷◌, [], ◌∙◌, ap, arith}
+use Rattle.std.proofs.Common.{ℕ, List, ◌+◌, arith}
 use Rattle.jul_text.specs.Tokens.{Word, tokens}
-use Rattle.jul_witness.proofs.ScanningLaws.{column_push}
+use Rattle.jul_witness.proofs.ScanningLaws.{column_pushed}
 use Rattle.jul_witness.proofs.columns.read_triples.Goals as goal
 
 pub loop-preserved : goal.loop-preserved
@@ -11,16 +11,10 @@ loop-preserved c =
     record {
       clean = c.in_ok-first.ensures.next;
       token = omega (arith, c.loop.invariant.token, c.in_ok-first.ensures.token);
-      first =
-          c.in_ok-push.ensures.items
-          ∙ ap (λ (xs : List ℕ). xs ++ c.in_ok-first.first ∷ []) c.loop.invariant.first
-          ∙ column_push c.args.heading ws 3 v 0 j c.in_ok-first.first c.requires.columns (omega (arith, c.loop.invariant.token)) c.in_ok-first.ensures.first;
-      second =
-          c.in_ok-push-2.ensures.items
-          ∙ ap (λ (xs : List ℕ). xs ++ c.in_ok-first.second ∷ []) c.loop.invariant.second
-          ∙ column_push c.args.heading ws 3 v 1 (j + 1) c.in_ok-first.second c.requires.columns (omega (arith, c.loop.invariant.token)) c.in_ok-first.ensures.second;
-      third =
-          c.in_ok-push-3.ensures.items
-          ∙ ap (λ (xs : List ℕ). xs ++ c.in_ok-first.third ∷ []) c.loop.invariant.third
-          ∙ column_push c.args.heading ws 3 v 2 (j + 2) c.in_ok-first.third c.requires.columns (omega (arith, c.loop.invariant.token)) c.in_ok-first.ensures.third;
+      first = column_pushed c.args.heading ws 3 v 0 j c.in_ok-first.first _ _ c.requires.columns (omega (arith, c.loop.invariant.token)) c.in_ok-first.ensures.first
+          c.loop.invariant.first c.in_ok-push.ensures.items;
+      second = column_pushed c.args.heading ws 3 v 1 (j + 1) c.in_ok-first.second _ _ c.requires.columns (omega (arith, c.loop.invariant.token)) c.in_ok-first.ensures.second
+          c.loop.invariant.second c.in_ok-push-2.ensures.items;
+      third = column_pushed c.args.heading ws 3 v 2 (j + 2) c.in_ok-first.third _ _ c.requires.columns (omega (arith, c.loop.invariant.token)) c.in_ok-first.ensures.third
+          c.loop.invariant.third c.in_ok-push-3.ensures.items;
     }

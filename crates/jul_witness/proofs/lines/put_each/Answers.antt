@@ -1,5 +1,4 @@
-use Rattle.std.proofs.Common.{◌<◌, ◌^◌, sym, arith}
-use Rattle.std.proofs.lemmas.List.Elements.{All-from_get_or}
+use Rattle.std.proofs.Common.{sym, arith}
 use Rattle.jul_base.proofs.SendingLaws.{on_err_holds, sent_piece, failed_piece, sent_pieces}
 use Rattle.jul_witness.specs.Texts.{spaced_value}
 use Rattle.jul_witness.proofs.lines.put_each.Goals as goal
@@ -19,9 +18,3 @@ loop-number-preserved g c = record {
 
 pub returns-clause-ok : goal.returns-clause-ok
 returns-clause-ok g c = sent_pieces spaced_value c.args.numbers.now c.loop-number.number-index _ _ c.loop-number.block c.args.block.now (omega arith) c.loop-number.invariant.sent
-
-pub returns-clause-numbers : goal.returns-clause-numbers
-returns-clause-numbers g c = All-from_get_or (λ s. s < 2 ^ 32) c.args.numbers.now 0 (λ i lt. omega (arith, c.type_inv.numbers i))
-
-pub returns-in_err-put_spaced-clause-numbers : goal.returns-in_err-put_spaced-clause-numbers
-returns-in_err-put_spaced-clause-numbers g c = All-from_get_or (λ s. s < 2 ^ 32) c.args.numbers.now 0 (λ i lt. omega (arith, c.type_inv.numbers i))

@@ -1,5 +1,4 @@
-use Rattle.std.proofs.Common.{ℕ, [], ◌∷◌, ◌<◌, ◌^◌, length, arith}
-use Rattle.std.proofs.lemmas.List.Elements.{All-from_get_or}
+use Rattle.std.proofs.Common.{ℕ, [], ◌∷◌, ◌<◌, length, arith}
 use Rattle.jul_base.specs.Numbers.{below}
 use Rattle.jul_base.proofs.SendingLaws.{on_err_holds, sent_piece, failed_piece, sent_pieces}
 use Rattle.jul_witness.specs.Texts.{vertex_line}
@@ -34,21 +33,3 @@ returns-clause-ok g c =
     sent_pieces (vertex_line (c.args.first.now ∷ c.args.second.now ∷ c.args.third.now ∷ [])) (below n) c.loop-v.v
     (g.S.Sink.state c.args.sink.now) (g.S.Sink.state c.loop-v.sink) c.loop-v.block c.args.block.now
     (omega (arith, length-below n)) c.loop-v.invariant.sent
-
-pub returns-clause-first : goal.returns-clause-first
-returns-clause-first g c = All-from_get_or (λ x. x < 2 ^ 64) c.args.first.now 0 (λ i lt. omega (arith, c.type_inv.first i))
-
-pub returns-clause-second : goal.returns-clause-second
-returns-clause-second g c = All-from_get_or (λ x. x < 2 ^ 64) c.args.second.now 0 (λ i lt. omega (arith, c.type_inv.second i))
-
-pub returns-clause-third : goal.returns-clause-third
-returns-clause-third g c = All-from_get_or (λ x. x < 2 ^ 64) c.args.third.now 0 (λ i lt. omega (arith, c.type_inv.third i))
-
-pub returns-in_err-put_triple-clause-first : goal.returns-in_err-put_triple-clause-first
-returns-in_err-put_triple-clause-first g c = All-from_get_or (λ x. x < 2 ^ 64) c.args.first.now 0 (λ i lt. omega (arith, c.type_inv.first i))
-
-pub returns-in_err-put_triple-clause-second : goal.returns-in_err-put_triple-clause-second
-returns-in_err-put_triple-clause-second g c = All-from_get_or (λ x. x < 2 ^ 64) c.args.second.now 0 (λ i lt. omega (arith, c.type_inv.second i))
-
-pub returns-in_err-put_triple-clause-third : goal.returns-in_err-put_triple-clause-third
-returns-in_err-put_triple-clause-third g c = All-from_get_or (λ x. x < 2 ^ 64) c.args.third.now 0 (λ i lt. omega (arith, c.type_inv.third i))

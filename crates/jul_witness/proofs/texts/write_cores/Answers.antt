@@ -1,39 +1,17 @@
-use Rattle.std.proofs.Common.{◌≡◌, ℕ, List, [], ◌∷◌, ◌^◌, ◌<◌, length, ◌∙◌, subst, ap}
-use Rattle.std.specs.List.{All}
-use Rattle.std.proofs.lemmas.Result.{on_ok_weaker, on_err_weaker}
-use Rattle.jul_base.specs.Sinks.{Appended, FailedWriting}
-use Rattle.jul_base.specs.declared.results.Cores.{Cores}
-use Rattle.jul_witness.specs.declared.forms.Form.TheVariants as forms
-use Rattle.jul_witness.specs.Texts.{result_text, cores_text}
+use Rattle.jul_witness.specs.Texts.{cores_text}
 use Rattle.jul_witness.proofs.ResultLaws.{reads-cores_text, cores_text-short}
 use Rattle.jul_witness.proofs.texts.write_cores.Goals as goal
 
-text_is : (m : ℕ) (v : Cores) (xs ys : List ℕ) → xs ≡ v.core → ys ≡ v.level → result_text forms.Cores (length xs) m [] (xs ∷ ys ∷ []) ≡ cores_text m v
-unfolding cores_text
-text_is m v xs ys a b =
-    ap (λ (t : List ℕ). result_text forms.Cores (length t) m [] (t ∷ ys ∷ [])) a
-    ∙ ap (λ (t : List ℕ). result_text forms.Cores (length v.core) m [] (v.core ∷ t ∷ [])) b
-
 pub returns-clause-ok : goal.returns-clause-ok
-returns-clause-ok g c =
-    on_ok_weaker c.write_pairs.result
-    (λ whole. subst (Appended (g.S.Sink.state c.args.sink.now) (g.S.Sink.state c.write_pairs.new.sink)) (text_is c.args.m c.args.c.now c.as_slice.result.now c.as_slice-2.result.now c.as_slice.ensures c.as_slice-2.ensures) whole)
-    c.write_pairs.ensures.ok
+unfolding cores_text
+returns-clause-ok g c = rw (c.as_slice.ensures, c.as_slice-2.ensures) at c.write_pairs.ensures.ok
 
 pub returns-clause-err : goal.returns-clause-err
-returns-clause-err g c =
-    on_err_weaker c.write_pairs.result
-    (λ failed. subst (FailedWriting (g.S.Sink.state c.args.sink.now) (g.S.Sink.state c.write_pairs.new.sink)) (text_is c.args.m c.args.c.now c.as_slice.result.now c.as_slice-2.result.now c.as_slice.ensures c.as_slice-2.ensures) failed)
-    c.write_pairs.ensures.err
+unfolding cores_text
+returns-clause-err g c = rw (c.as_slice.ensures, c.as_slice-2.ensures) at c.write_pairs.ensures.err
 
 pub returns-clause-read_back : goal.returns-clause-read_back
-returns-clause-read_back g c =
-    reads-cores_text c.args.m c.args.c.now c.requires.few c.requires.lawful
-    (subst (λ (xs : List ℕ). All (λ x. x < 2 ^ 64) xs) c.as_slice.ensures c.write_pairs.ensures.first)
-    (subst (λ (xs : List ℕ). All (λ x. x < 2 ^ 64) xs) c.as_slice-2.ensures c.write_pairs.ensures.second)
+returns-clause-read_back g c = reads-cores_text c.args.m c.args.c.now c.requires.few c.requires.lawful c.has_64_bits.ensures c.has_64_bits-2.ensures
 
 pub returns-clause-short : goal.returns-clause-short
-returns-clause-short g c =
-    cores_text-short c.args.m c.args.c.now c.requires.few c.requires.lawful
-    (subst (λ (xs : List ℕ). All (λ x. x < 2 ^ 64) xs) c.as_slice.ensures c.write_pairs.ensures.first)
-    (subst (λ (xs : List ℕ). All (λ x. x < 2 ^ 64) xs) c.as_slice-2.ensures c.write_pairs.ensures.second)
+returns-clause-short g c = cores_text-short c.args.m c.args.c.now c.requires.few c.requires.lawful c.has_64_bits.ensures c.has_64_bits-2.ensures
