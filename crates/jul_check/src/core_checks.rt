@@ -116,6 +116,3 @@ fn tally(c: &Cores, row: &[u32], v: u32) -> RowTally
         not_before,
     }
 }
-
-#[cfg(test)]
-mod tests;

@@ -73,6 +73,3 @@ impl<'a> VertexTest for CoverTest<'a> {
         }
     }
 }
-
-#[cfg(test)]
-mod tests;

@@ -149,6 +149,3 @@ fn exceeds(there: u64, number: u64, weight: u32) -> bool
 {
     number < there && there - number > weight as u64
 }
-
-#[cfg(test)]
-mod tests;

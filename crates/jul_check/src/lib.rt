@@ -21,4 +21,4 @@ pub use distance_checks::check_distances;
 pub use verdicts::{Reason, Verdict};
 
 #[cfg(test)]
-mod test_graphs;
+mod tests;

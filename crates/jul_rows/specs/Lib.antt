@@ -1,3 +1,4 @@
+pub mod Listed
 pub mod Cuts
 pub mod Filling
 pub mod Balance

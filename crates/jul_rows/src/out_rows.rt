@@ -1,10 +1,12 @@
 //! The row of each vertex: the targets of its edges, in file order.
-ghost use Rattle.std.specs.Prelude.{◌≡◌, ℕ, ◌+◌, ◌<◌, ◌≤◌, length, slice_index};
+ghost use Rattle.std.specs.Prelude.{◌≡◌, ℕ, ◌+◌, ◌<◌, ◌≤◌, ◌↔◌, length, slice_index, IfOk, IfSome, IsSome};
 ghost use Rattle.jul_base.specs.declared.limits.TheConstants.{MAX_N, MAX_M};
 ghost use Rattle.jul_base.specs.Graph.{vertices, places, target, weight, row, row_start, row_end};
 ghost use Rattle.jul_base.specs.Graph.{IsLawful, IsPlaceOf};
+ghost use Rattle.jul_rows.specs.Listed.{listed};
 
-use jul_base::RawGraph;
+use jul_base::{Ids, RawGraph};
+use std::alloc::{AllocError, Global};
 use std::marker::Model;
 
 /// A graph by rows. A contract sees the graph itself, and each graph that is kept is lawful.
@@ -35,6 +37,30 @@ impl Rows {
         ensures graph { result ≡ raw }
     {
         Rows { raw }
+    }
+
+    /// The rows of the graph with these lists, which has no weights of its own where the last one is empty. Lists of no
+    /// lawful graph give none. Takes a copy of each list.
+    pub fn of_lists(
+        alloc: Global,
+        offsets: &[u32],
+        targets: &[u32],
+        weights: &[u32],
+    ) -> Result<Option<Rows>, AllocError>
+        ensures lawful { IfOk result (λ rows. IsSome rows ↔ IsLawful (listed offsets.now targets.now weights.now)) }
+        ensures graph { IfOk result (λ rows. IfSome rows (λ r. r ≡ listed offsets.now targets.now weights.now)) }
+    {
+        let raw = RawGraph {
+            weighted: !weights.is_empty(),
+            offsets: Ids::from_vec(Vec::from_slice(alloc, offsets)?),
+            targets: Ids::from_vec(Vec::from_slice(alloc, targets)?),
+            weights: Ids::from_vec(Vec::from_slice(alloc, weights)?),
+        };
+        if raw.is_lawful() {
+            Ok(Some(Rows::of(raw)))
+        } else {
+            Ok(None)
+        }
     }
 
     /// The graph as the file listed it.

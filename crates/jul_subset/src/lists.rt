@@ -9,6 +9,7 @@ ghost use Rattle.jul_subset.specs.Lists.{FindsRepeat, IsRightBefore, NamesFirstW
 use crate::errors::SubsetError;
 use crate::marks::{listed, marks_at};
 use crate::subsets::VertexSubset;
+use jul_base::in_order;
 use std::alloc::{AllocError, Global};
 
 /// A list is put in order by marks where it has an id for each so many vertices, else it is sorted.
@@ -73,16 +74,6 @@ fn first_outside(n: u32, ids: &[u32]) -> usize
         }
     }
     ids.len()
-}
-
-/// The ids, each once, in increasing order.
-fn in_order(mut ids: Vec<u32>) -> Vec<u32>
-    ensures increasing { IsStrictlyIncreasing result.items }
-    ensures same { (v : ℕ) → Contains result.items v ↔ Contains ids.items v }
-{
-    ids.sort_unstable();
-    ids.dedup();
-    ids
 }
 
 /// The first place of `ids` whose id stands earlier too. `members` are the ids in increasing order.

@@ -2,7 +2,7 @@ use Rattle.std.proofs.lemmas.List.Filters.{dedup_is}
 use Rattle.std.proofs.lemmas.List.Kept.{Contains-dedup_nat, Contains-from_dedup}
 use Rattle.std.proofs.lemmas.List.Sorted.{Contains-permutation, IsPermutation-sym}
 use Rattle.std.proofs.lemmas.Map.Keys.{IsStrictlyIncreasing-dedup}
-use Rattle.jul_subset.proofs.lists.in_order.Goals as goal
+use Rattle.jul_base.proofs.orders.in_order.Goals as goal
 
 pub returns-clause-increasing : goal.returns-clause-increasing
 returns-clause-increasing c =
