@@ -4,14 +4,14 @@ ghost use Rattle.jul_base.specs.declared.limits.TheConstants.{NONE, MAX_N};
 ghost use Rattle.jul_bucket.specs.declared.limits.TheConstants.{MAX_OPEN};
 ghost use Rattle.jul_bucket.specs.declared.orders.Order.TheVariants.{Increasing};
 ghost use Rattle.jul_bucket.specs.Orders.{turn};
-ghost use Rattle.jul_bucket.specs.Places.{AllNone, NoneBehind, set_places};
+ghost use Rattle.jul_bucket.specs.Places.{AllNone, IsFirstHeld, NoneBehind, emptied, ids_at, set_places};
 ghost use Rattle.jul_bucket.specs.States.{IsFirstFront};
-ghost use Rattle.jul_bucket.specs.Ranks.{Ranked, IsTaken, start_at, turned_moves};
-ghost use Rattle.jul_bucket.specs.Copies.{copies_at, IsFirstOpen, HoldsOpen, IsFirstAt};
-ghost use Rattle.jul_bucket.specs.QueueViews.{ranked_of, IsQueue};
+ghost use Rattle.jul_bucket.specs.Ranks.{Ranked, IsTaken, IsHeld, after_reaching, start_at, turned_moves};
+ghost use Rattle.jul_bucket.specs.Copies.{copies_at, IsFirstOpen, IsFirstAt};
+ghost use Rattle.jul_bucket.specs.QueueViews.{ranked_of, IsQueue, IsNearSpent, IsSpot};
 
 use crate::copies::{clear_lists, find_level, find_open};
-use crate::gathering::{Taken, take_out, taken_of};
+use crate::gathering::{Held, Taken, ids_of, settle, take_out, taken_of};
 use crate::levels::{first_bounds, next_bounds};
 use crate::limits::{BOUNDS, LEVELS, NEAR_LISTS};
 use crate::orders::Order;
@@ -39,6 +39,15 @@ pub(crate) struct RankQueue {
     pub bounds: [u64; BOUNDS],
     pub near: Vec<Vec<u32>>,
     pub levels: Vec<Vec<u32>>,
+}
+
+/// Where the ids of a rank have their copies.
+#[derive(Clone, Copy)]
+pub(crate) enum Spot {
+    /// In the near list of this number.
+    Near(usize),
+    /// In the level of this number, with others. The ids are those of this rank.
+    Far(usize, u64),
 }
 
 impl RankQueue {
@@ -114,14 +123,44 @@ impl RankQueue {
         ensures err { OnErr result (ranked_of self.new ≡ ranked_of self.old) }
         ensures queue { IsQueue self.new }
     {
+        match self.find() {
+            None => Ok(None),
+            Some(Spot::Near(i)) => Ok(Some(self.take_near(i)?)),
+            Some(Spot::Far(level, rank)) => Ok(Some(self.take_far(level, rank)?)),
+        }
+    }
+
+    /// Tells the ids of the least rank, which keep it. All memory is taken before the front moves.
+    pub fn hold(&mut self) -> Result<Option<Held>, AllocError>
+        requires { IsQueue self.old }
+
+        ensures held { IfOk result (λ held. MatchOption held
+            (AllNone self.old.ranks.items × (ranked_of self.new ≡ ranked_of self.old))
+            (λ h. IsHeld (ranked_of self.old) h (ranked_of self.new))) }
+        ensures err { OnErr result (ranked_of self.new ≡ ranked_of self.old) }
+        ensures queue { IsQueue self.new }
+    {
+        match self.find() {
+            None => Ok(None),
+            Some(Spot::Near(i)) => Ok(Some(self.hold_near(i)?)),
+            Some(Spot::Far(level, rank)) => Ok(Some(self.hold_far(level, rank)?)),
+        }
+    }
+
+    /// Where the ids of the least rank have their copies, unless no id has a rank.
+    fn find(&self) -> Option<Spot>
+        requires { IsQueue self.now }
+
+        ensures { MatchOption result (AllNone self.now.ranks.items) (IsSpot self.now) }
+    {
         let from = (self.front - self.base) as usize;
         let ranks = self.ranks.as_slice();
         if let Some(i) = find_open(ranks, &self.near, self.base, from, self.end) {
-            return Ok(Some(self.take_near(i)?));
+            return Some(Spot::Near(i));
         }
         match find_level(ranks, &self.levels, &self.bounds) {
-            None => Ok(None),
-            Some((level, rank)) => Ok(Some(self.take_far(level, rank)?)),
+            None => None,
+            Some((level, rank)) => Some(Spot::Far(level, rank)),
         }
     }
 
@@ -135,32 +174,91 @@ impl RankQueue {
         ensures err { OnErr result (ranked_of self.new ≡ ranked_of self.old) }
         ensures queue { IsQueue self.new }
     {
-        let from = (self.front - self.base) as usize;
         let rank = self.base + i as u64;
         let copies = self.near[i].as_slice();
         let taken = taken_of(self.alloc, self.ranks.as_slice(), copies, rank)?;
-        take_out(self.ranks.as_mut_slice(), taken.ids.as_slice(), rank);
-        clear_lists(&mut self.near, from, i + 1);
-        self.start = next_start(self.open_count, self.start, rank);
-        self.front = rank;
+        self.pass(rank);
+        self.empty(taken.ids.as_slice());
         Ok(taken)
     }
 
     /// Takes out the ids of a rank in a level, where no near list and no level before holds a rank that it is for.
-    /// The level is spread over the near lists, which begin at this rank then, and over the levels before it.
     fn take_far(&mut self, level: usize, rank: u64) -> Result<Taken, AllocError>
         requires queue { IsQueue self.old }
-        requires none { (k : ℕ) → self.old.front - self.old.base ≤ k → k < self.old.end
-            → HoldsOpen self.old.ranks.items self.old.near.items self.old.base k → ⊥ }
+        requires none { IsNearSpent self.old }
         requires found { IsFirstAt self.old.ranks.items self.old.levels.items self.old.bounds level rank }
 
         ensures taken { IfOk result (λ t. IsTaken (ranked_of self.old) t (ranked_of self.new)) }
         ensures err { OnErr result (ranked_of self.new ≡ ranked_of self.old) }
         ensures queue { IsQueue self.new }
     {
-        let from = (self.front - self.base) as usize;
         let copies = self.levels[level].as_slice();
         let taken = taken_of(self.alloc, self.ranks.as_slice(), copies, rank)?;
+        self.advance(level, rank)?;
+        self.empty(taken.ids.as_slice());
+        Ok(taken)
+    }
+
+    /// Tells the ids of near list `i`, the first that holds its rank. The list has no other copies then.
+    fn hold_near(&mut self, i: usize) -> Result<Held, AllocError>
+        requires queue { IsQueue self.old }
+        requires found { IsFirstOpen self.old.ranks.items self.old.near.items self.old.base
+            (self.old.front - self.old.base) self.old.end i }
+
+        ensures held { IfOk result (λ h. IsHeld (ranked_of self.old) h (ranked_of self.new)) }
+        ensures err { OnErr result (ranked_of self.new ≡ ranked_of self.old) }
+        ensures queue { IsQueue self.new }
+    {
+        let rank = self.base + i as u64;
+        settle(self.alloc, self.ranks.as_slice(), &mut self.near[i], rank)?;
+        let ids = Vec::from_slice(self.alloc, self.near[i].as_slice())?;
+        self.pass(rank);
+        Ok(Held { rank, ids })
+    }
+
+    /// Tells the ids of a rank in a level, where no near list and no level before holds a rank that it is for.
+    fn hold_far(&mut self, level: usize, rank: u64) -> Result<Held, AllocError>
+        requires queue { IsQueue self.old }
+        requires none { IsNearSpent self.old }
+        requires found { IsFirstAt self.old.ranks.items self.old.levels.items self.old.bounds level rank }
+
+        ensures held { IfOk result (λ h. IsHeld (ranked_of self.old) h (ranked_of self.new)) }
+        ensures err { OnErr result (ranked_of self.new ≡ ranked_of self.old) }
+        ensures queue { IsQueue self.new }
+    {
+        let copies = self.levels[level].as_slice();
+        let ids = ids_of(self.alloc, self.ranks.as_slice(), copies, rank)?;
+        self.advance(level, rank)?;
+        Ok(Held { rank, ids })
+    }
+
+    /// Lets the queue stand at the least rank, which has a near list.
+    fn pass(&mut self, rank: u64)
+        requires queue { IsQueue self.old }
+        requires first { IsFirstHeld Increasing self.old.ranks.items rank }
+        requires near { rank < self.old.base + self.old.end }
+
+        ensures reached { ranked_of self.new ≡ after_reaching (ranked_of self.old) rank }
+        ensures queue { IsQueue self.new }
+    {
+        let from = (self.front - self.base) as usize;
+        clear_lists(&mut self.near, from, (rank - self.base) as usize);
+        self.start = next_start(self.open_count, self.start, rank);
+        self.front = rank;
+    }
+
+    /// Lets the queue stand at a rank in a level, where no near list and no level before holds a rank that it is for.
+    /// The level is spread over the near lists, which begin at this rank then, and over the levels before it.
+    fn advance(&mut self, level: usize, rank: u64) -> Result<(), AllocError>
+        requires queue { IsQueue self.old }
+        requires none { IsNearSpent self.old }
+        requires found { IsFirstAt self.old.ranks.items self.old.levels.items self.old.bounds level rank }
+
+        ensures reached { OnOk result (ranked_of self.new ≡ after_reaching (ranked_of self.old) rank) }
+        ensures err { OnErr result (ranked_of self.new ≡ ranked_of self.old) }
+        ensures queue { IsQueue self.new }
+    {
+        let from = (self.front - self.base) as usize;
         let bounds = next_bounds(&self.bounds, level, rank, self.near_count);
         clear_lists(&mut self.near, from, self.end);
         clear_lists(&mut self.levels, 0, level);
@@ -168,19 +266,31 @@ impl RankQueue {
             self.alloc,
             self.ranks.as_slice(),
             level,
-            rank,
             &mut self.near,
             &mut self.levels,
             &bounds,
             rank,
         )?;
-        take_out(self.ranks.as_mut_slice(), taken.ids.as_slice(), rank);
         self.start = next_start(self.open_count, self.start, rank);
         self.base = rank;
         self.end = end;
         self.bounds = bounds;
         self.front = rank;
-        Ok(taken)
+        Ok(())
+    }
+
+    /// Takes out the ids of the rank at which the queue stands.
+    fn empty(&mut self, ids: &[u32])
+        requires queue { IsQueue self.old }
+        requires ids { ids.now ≡ ids_at self.old.ranks.items self.old.front }
+
+        ensures emptied { ranked_of self.new
+            ≡ record (ranked_of self.old) { ranks = emptied self.old.ranks.items self.old.front } }
+        ensures queue { IsQueue self.new }
+    {
+        let i = (self.front - self.base) as usize;
+        take_out(self.ranks.as_mut_slice(), ids, self.front);
+        clear_lists(&mut self.near, i, i + 1);
     }
 }
 

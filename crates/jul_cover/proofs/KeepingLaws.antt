@@ -29,7 +29,7 @@ listed_in n p (x ∷ xs) within =
     ]
 
 -- what stands in a list of parts stands in a part
-pub part_from : (f : ℕ → List ℕ) (xs : List ℕ) (y : ℕ) → Contains (flat_map f xs) y → (x : ℕ) × Contains xs x × Contains (f x) y
+pub part_from : {Y : Type 0} (f : ℕ → List Y) (xs : List ℕ) (y : Y) → Contains (flat_map f xs) y → (x : ℕ) × Contains xs x × Contains (f x) y
 part_from f [] y (k, lt, is) = absurd (omega (arith, lt))
 part_from f (x ∷ xs) y there =
     elim (Contains-append_cases (f x) (flat_map f xs) y there) [
@@ -37,7 +37,7 @@ part_from f (x ∷ xs) y there =
       | inr later ↦ let (z, in_xs, held) = part_from f xs y later in (z, Contains-cons x xs z in_xs, held)
     ]
 
-pub part_to : (f : ℕ → List ℕ) (xs : List ℕ) (x y : ℕ) → Contains xs x → Contains (f x) y → Contains (flat_map f xs) y
+pub part_to : {Y : Type 0} (f : ℕ → List Y) (xs : List ℕ) (x : ℕ) (y : Y) → Contains xs x → Contains (f x) y → Contains (flat_map f xs) y
 part_to f [] x y (k, lt, is) held = absurd (omega (arith, lt))
 part_to f (z ∷ xs) x y there held =
     elim (Contains-cons_cases z xs x there) [

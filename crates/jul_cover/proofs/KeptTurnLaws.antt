@@ -25,7 +25,7 @@ use Rattle.jul_cover.specs.Choosing.{active_of}
 use Rattle.jul_cover.specs.CoverBids.{bid, bid_base, Bids}
 use Rattle.jul_cover.specs.CoverWork.{At, IsCovering, IsStored, packed, next_round, remaining}
 use Rattle.jul_cover.specs.Keeping.{AreHolders, is_large, winner_in, is_winning}
-use Rattle.jul_cover.specs.KeptTurns.{AreAllOpen, HasKept, IsKeeping, candidates_for}
+use Rattle.jul_cover.specs.KeptTurns.{AreAllOpen, HasKept, IsKeeping, sets_for}
 use Rattle.jul_cover.proofs.CandidateLaws.{untouched, next_candidate}
 use Rattle.jul_cover.proofs.ColumnLaws.{not_in_nil}
 use Rattle.jul_cover.proofs.CoverLeftLaws.{set_at-within}
@@ -105,7 +105,7 @@ module _ (sets : List (List ℕ)) (are : AreSets sets) (few : length sets ≤ MA
     large_active x lt large =
         active_of_size sets are few bid_table owner_table bid_home owner_home p round by at s h bucket drawn mid d p (packed_same drawn) x (large_drawn x lt large) large
 
-    complete : (one : ℕ) → Contains active one → (x : ℕ) → Contains (chosen_in sets at.round) x → Contains (candidates_for last bucket known drawn) x
+    complete : (one : ℕ) → Contains active one → (x : ℕ) → Contains (chosen_in sets at.round) x → Contains (sets_for last bucket known drawn) x
     complete one is_one x there =
         let bucket_at : bucket_of sets c ≡ bucket = bucket_is sets are few bid_table owner_table bid_home owner_home p round by at s h bucket drawn mid d p (packed_same drawn) one is_one in
         elim (cases_eq last bucket) [
@@ -116,7 +116,7 @@ module _ (sets : List (List ℕ)) (are : AreSets sets) (few : length sets ≤ MA
               subst (λ l. Contains l x) (sym (cond-false _ _ _ (ne_eqb _ _ other))) (large_drawn x lt large)
         ]
 
-    module _ (now : List ℕ) (now_is : now ≡ candidates_for last bucket known drawn) (now_in : All (λ x. x < p.n) now)
+    module _ (now : List ℕ) (now_is : now ≡ sets_for last bucket known drawn) (now_in : All (λ x. x < p.n) now)
         (p' : PackedSets) (round' by' : List ℕ) (at' : At) (s' : State) (next : List ℕ) (r : HasKept edges bucket drawn now p p' round by round' by' at at' mid s' next) where
       winning_is : (x : ℕ) → Contains r.chosen x → (x < n) × (is_winning (pack_at p) edges bucket x ≡ true)
       winning_is x there =
@@ -280,7 +280,7 @@ keeping_first sets are few bid_table owner_table bid_home owner_home p round by 
     }
 
 -- what holds of both holds of the candidates
-pub candidates_meet : (P : List ℕ → Type 0) (last bucket : ℕ) (known drawn now : List ℕ) → now ≡ candidates_for last bucket known drawn → P known → P drawn → P now
+pub candidates_meet : (P : List ℕ → Type 0) (last bucket : ℕ) (known drawn now : List ℕ) → now ≡ sets_for last bucket known drawn → P known → P drawn → P now
 candidates_meet P last bucket known drawn now is of_known of_drawn =
     elim (cases_eq last bucket) [
       | inl same ↦ subst P (sym (is ∙ cond-true _ _ _ (eq-eqb _ _ same))) of_known

@@ -19,5 +19,6 @@ pub mod WinnerLaws
 pub mod KeepingLaws
 pub mod CandidateLaws
 pub mod KeptTurnLaws
+pub mod LeavingLaws
 pub mod MoveTurnLaws
 pub mod EngineLaws

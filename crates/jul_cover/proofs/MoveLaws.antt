@@ -69,7 +69,7 @@ all_moves P ms each k d lt =
 -- ---- the places
 
 -- a place that each move of its id sets to y, and that is y already, stays y
-stays : (places : List ℕ) (ms : Moves) (x y : ℕ) → x < length places → ((m : ℕ × ℕ) → Contains ms m → m.0 ≡ x → m.1 ≡ y) → get_or places x 0 ≡ y → get_or (set_places places ms) x 0 ≡ y
+pub stays : (places : List ℕ) (ms : Moves) (x y : ℕ) → x < length places → ((m : ℕ × ℕ) → Contains ms m → m.0 ≡ x → m.1 ≡ y) → get_or places x 0 ≡ y → get_or (set_places places ms) x 0 ≡ y
 stays places [] x y lt all is = is
 stays places (m ∷ ms) x y lt all is =
     let rest : (n : ℕ × ℕ) → Contains ms n → n.0 ≡ x → n.1 ≡ y = λ n (k, k_lt, at) same. all n (suc k, omega arith, at) same in
@@ -83,7 +83,7 @@ stays places (m ∷ ms) x y lt all is =
     stays (set places m.0 m.1) ms x y (omega (arith, length-set places m.0 m.1)) rest next
 
 -- and where there is such a move, it becomes y
-becomes : (places : List ℕ) (ms : Moves) (x y : ℕ) → x < length places → ((m : ℕ × ℕ) → Contains ms m → m.0 ≡ x → m.1 ≡ y) → Contains ms (x, y) → get_or (set_places places ms) x 0 ≡ y
+pub becomes : (places : List ℕ) (ms : Moves) (x y : ℕ) → x < length places → ((m : ℕ × ℕ) → Contains ms m → m.0 ≡ x → m.1 ≡ y) → Contains ms (x, y) → get_or (set_places places ms) x 0 ≡ y
 becomes places [] x y lt all (k, k_lt, at) = absurd (omega (arith, k_lt))
 becomes places (m ∷ ms) x y lt all (zero, k_lt, at) =
     let rest : (n : ℕ × ℕ) → Contains ms n → n.0 ≡ x → n.1 ≡ y = λ n (k, n_lt, is) same. all n (suc k, omega arith, is) same in

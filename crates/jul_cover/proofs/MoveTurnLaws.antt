@@ -50,7 +50,7 @@ module _ (bid_table owner_table : List ℕ) (bucket : ℕ) (drawn : List ℕ) (p
               ]
         ]
 
-    not_behind : (x : ℕ) → Contains drawn x → next_place (pack_at p') round' x ≢ NONE → IsNotBehind s.order (next_place (pack_at p') round' x) s.front
+    pub not_behind : (x : ℕ) → Contains drawn x → next_place (pack_at p') round' x ≢ NONE → IsNotBehind s.order (next_place (pack_at p') round' x) s.front
     not_behind x there some =
         let low : next_place (pack_at p') round' x ≤ bucket = next_low x there some in
         let behind : IsNotBehind Decreasing (next_place (pack_at p') round' x) s.front = omega (arith, low, can.front) in

@@ -2,16 +2,18 @@
 ghost use Rattle.std.specs.Prelude.{◌≡◌, ◌↔◌, ℕ, ◌<◌, ◌≤◌, length, All, Contains, IfOk};
 ghost use Rattle.std.specs.List.Sorted.{IsStrictlyIncreasing};
 ghost use Rattle.jul_base.specs.declared.limits.TheConstants.{MAX_N};
+ghost use Rattle.jul_bucket.specs.Places.{ids_at};
+ghost use Rattle.jul_bucket.specs.States.{with_emptied};
 ghost use Rattle.jul_cover.specs.PackedSets.{pack_at, ArePacked, AreOpen, HasPacked};
 ghost use Rattle.jul_cover.specs.CoverBids.{bid_base};
 ghost use Rattle.jul_cover.specs.Offers.{IsRootOf};
 ghost use Rattle.jul_cover.specs.Choosing.{active_of};
 ghost use Rattle.jul_cover.specs.CoverWork.{CanTurn};
 ghost use Rattle.jul_cover.specs.Keeping.{AreWithin, winners_of};
-ghost use Rattle.jul_cover.specs.KeptTurns.{AreAllOpen, HasBid, HasKept};
+ghost use Rattle.jul_cover.specs.KeptTurns.{AreAllOpen, AreRight, HasBid, HasKept};
 
 use crate::choosing::{active_sets, work_of};
-use crate::moving::moves_after;
+use crate::moving::moves_from;
 use crate::offering::offer_all;
 use crate::packed_sets::PackedSets;
 use crate::packing::pack_each;
@@ -28,23 +30,33 @@ use jul_words::{MinSeat, MinWords};
 use std::alloc::{AllocError, Global};
 use std::thread::Threads;
 
-/// Where the rounds stand, and who may be chosen in the next if its bucket is the same.
+/// The sets that a turn looks at.
+#[derive(Drop)]
+pub(crate) struct Watched {
+    /// Who may be chosen.
+    pub(crate) candidates: Vec<u32>,
+    /// Whose size or bucket may have changed since the bucket was drawn last.
+    pub(crate) changed: Vec<u32>,
+}
+
+/// Where the rounds stand, and which sets the next turn looks at if its bucket is the same.
 #[derive(Drop)]
 pub(crate) struct Kept {
     pub(crate) at: Standing,
-    pub(crate) candidates: Vec<u32>,
+    pub(crate) watched: Watched,
 }
 
-/// Chooses those candidates that win half, gives them their elements, moves the other drawn sets to the buckets of their
-/// sizes, and packs the sets that lost elements. No other set is looked at.
+/// Chooses those candidates that win half, gives them their elements, moves the changed and the chosen sets of the bucket
+/// to where they belong, and packs the sets that lost elements. No other set is looked at.
+///
+/// The bucket was drawn in place, so its sets are still in it.
 pub(crate) fn take_kept_turn<R: Threads + Sync, G: Gate>(
     rt: &R,
     alloc: Global,
     team: &Team<'_, G>,
     packs: &mut PackedSets,
     holders: &InRows,
-    candidates: &[u32],
-    drawn: &[u32],
+    watched: Watched,
     bucket: u64,
     bids: &MinWords,
     owners: &MinWords,
@@ -54,28 +66,38 @@ pub(crate) fn take_kept_turn<R: Threads + Sync, G: Gate>(
     marks: &mut [bool],
     buckets: &mut Buckets,
 ) -> Result<Kept, AllocError>
-    requires can { CanTurn bids.now owners.now bucket drawn.now packs.old round.old by.old
-        (record { round = at.round; bids = at.bids; owners = at.owners }) buckets.old }
+    requires can { CanTurn bids.now owners.now bucket (ids_at buckets.old.places bucket) packs.old round.old by.old
+        (record { round = at.round; bids = at.bids; owners = at.owners }) (with_emptied buckets.old bucket) }
     requires open_sets { AreAllOpen by.old packs.old }
     requires within { AreWithin packs.old.n holders.now }
-    requires increasing { IsStrictlyIncreasing candidates.now }
-    requires in_range { All (λ s. s < packs.old.n) candidates.now }
+    requires increasing { IsStrictlyIncreasing watched.candidates.items }
+    requires in_range { All (λ s. s < packs.old.n) watched.candidates.items }
+    requires right { AreRight buckets.old.places bucket (pack_at packs.old) round.old watched.changed.items }
+    requires changed_in { All (λ s. s < packs.old.n) watched.changed.items }
     requires marks { AreOpen marks.old by.old }
 
-    ensures kept { IfOk result (λ r. HasKept holders.now bucket drawn.now candidates.now packs.old packs.new
-        round.old by.old round.new by.new (record { round = at.round; bids = at.bids; owners = at.owners })
+    ensures kept { IfOk result (λ r. HasKept holders.now bucket (ids_at buckets.old.places bucket)
+        watched.candidates.items packs.old packs.new round.old by.old round.new by.new
+        (record { round = at.round; bids = at.bids; owners = at.owners })
         (record { round = r.at.round; bids = r.at.bids; owners = r.at.owners })
-        buckets.old buckets.new r.candidates.items) }
+        (with_emptied buckets.old bucket) buckets.new r.watched.candidates.items) }
     ensures marks { IfOk result (λ _. AreOpen marks.new by.new) }
-    ensures increasing { IfOk result (λ r. IsStrictlyIncreasing r.candidates.items) }
-    ensures in_range { IfOk result (λ r. All (λ s. s < packs.new.n) r.candidates.items) }
+    ensures increasing { IfOk result (λ r. IsStrictlyIncreasing r.watched.candidates.items) }
+    ensures in_range { IfOk result (λ r. All (λ s. s < packs.new.n) r.watched.candidates.items) }
+    ensures right { IfOk result (λ r.
+        AreRight buckets.new.places bucket (pack_at packs.new) round.new r.watched.changed.items) }
+    ensures changed_in { IfOk result (λ r. All (λ s. s < packs.new.n) r.watched.changed.items) }
 {
     let Standing {
         round: t,
         bids: bid_seat,
         owners: owner_seat,
     } = at;
-    let chosen = winning_sets(alloc, packs, holders, candidates, bucket)?;
+    let Watched {
+        candidates,
+        changed: mut listed,
+    } = watched;
+    let chosen = winning_sets(alloc, packs, holders, candidates.as_slice(), bucket)?;
     let next = round_after(t, chosen.as_slice());
     let holding = touched_by(alloc, packs, holders, chosen.as_slice())?;
     let touched = ordered(alloc, packs.n, holding)?;
@@ -91,10 +113,11 @@ pub(crate) fn take_kept_turn<R: Threads + Sync, G: Gate>(
         bids,
         bid_seat,
     )?;
+    listed.extend_from_slice(chosen.as_slice())?;
     let owner_seat = give(
         rt, alloc, team, packs, chosen, t, owners, owner_seat, round, by, marks,
     )?;
-    let moves = moves_after(rt, alloc, team, drawn, packs, round, buckets)?;
+    let moves = moves_from(alloc, listed.as_slice(), bucket, packs, round, buckets)?;
     buckets.update_buckets(moves.as_slice())?;
     let candidates = renewed(alloc, packs, holders, touched.as_slice(), bucket, marks, by)?;
     Ok(Kept {
@@ -103,7 +126,10 @@ pub(crate) fn take_kept_turn<R: Threads + Sync, G: Gate>(
             bids: bid_seat,
             owners: owner_seat,
         },
-        candidates,
+        watched: Watched {
+            candidates,
+            changed: touched,
+        },
     })
 }
 

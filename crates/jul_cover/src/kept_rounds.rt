@@ -5,9 +5,9 @@ ghost use Rattle.jul_bucket.specs.Places.{AllNone};
 ghost use Rattle.jul_cover.specs.PackedSets.{AreOpen};
 ghost use Rattle.jul_cover.specs.CoverWork.{IsCovering};
 ghost use Rattle.jul_cover.specs.Keeping.{AreHolders};
-ghost use Rattle.jul_cover.specs.KeptTurns.{candidates_for};
+ghost use Rattle.jul_cover.specs.KeptTurns.{last_drawn, sets_for};
 
-use crate::keeping::{Kept, take_kept_turn};
+use crate::keeping::{Kept, Watched, take_kept_turn};
 use crate::packed_sets::PackedSets;
 use crate::packing::pack_each;
 use crate::turns::Standing;
@@ -48,26 +48,24 @@ pub(crate) fn kept_rounds<R: Threads + Sync, G: Gate>(
     prove!(sets.n() <= jul_base::MAX_N);
     let mut at = at;
     let mut last = 0;
-    let mut known = every_set(alloc, sets.n())?;
-    let every = known.as_slice();
-    pack_each(packs, every, marks, by);
+    let every = every_set(alloc, sets.n())?;
+    pack_each(packs, every.as_slice(), marks, by);
+    let mut watched = all_of(alloc, every)?;
     'rounds: loop {
-        let Some((bucket, drawn)) = buckets.next_bucket()? else {
+        let Some(bucket) = buckets.next_bucket_in_place()? else {
             return Ok(at);
         };
-        let ids = drawn.as_slice();
-        let candidates = candidates_of(alloc, known, last, ids, bucket)?;
-        let listed = candidates.as_slice();
+        let now = watched_in(alloc, watched, last, bucket, buckets)?;
         let kept = take_kept_turn(
-            rt, alloc, team, packs, holders, listed, ids, bucket, bids, owners, at, round, by,
-            marks, buckets,
+            rt, alloc, team, packs, holders, now, bucket, bids, owners, at, round, by, marks,
+            buckets,
         )?;
         let Kept {
             at: next,
-            candidates: winners,
+            watched: rest,
         } = kept;
         at = next;
-        known = winners;
+        watched = rest;
         last = bucket;
     }
 }
@@ -83,19 +81,37 @@ fn every_set(alloc: Global, n: u32) -> Result<Vec<u32>, AllocError>
     Ok(sets)
 }
 
-/// Who may be chosen: those that are known where the bucket is the last one, else all that were drawn.
-fn candidates_of(
+/// All of these are watched.
+fn all_of(alloc: Global, sets: Vec<u32>) -> Result<Watched, AllocError>
+    ensures candidates { IfOk result (λ r. r.candidates.items ≡ sets.items) }
+    ensures changed { IfOk result (λ r. r.changed.items ≡ sets.items) }
+{
+    let changed = Vec::from_slice(alloc, sets.as_slice())?;
+    Ok(Watched {
+        candidates: sets,
+        changed,
+    })
+}
+
+/// The sets to look at: those that are known where the bucket is the last one, else all of the last draw.
+fn watched_in(
     alloc: Global,
-    known: Vec<u32>,
+    known: Watched,
     last: u64,
-    drawn: &[u32],
     bucket: u64,
-) -> Result<Vec<u32>, AllocError>
-    ensures { IfOk result (λ r. r.items ≡ candidates_for last bucket known.items drawn.now) }
+    buckets: &Buckets,
+) -> Result<Watched, AllocError>
+    requires { 0 < length buckets.now.draws }
+
+    ensures candidates { IfOk result (λ r.
+        r.candidates.items ≡ sets_for last bucket known.candidates.items (last_drawn buckets.now.draws)) }
+    ensures changed { IfOk result (λ r.
+        r.changed.items ≡ sets_for last bucket known.changed.items (last_drawn buckets.now.draws)) }
 {
     if last == bucket {
-        Ok(known)
-    } else {
-        Vec::from_slice(alloc, drawn)
+        return Ok(known);
     }
+    let draws = buckets.drawn();
+    let drawn = Vec::from_slice(alloc, draws[draws.len() - 1].ids.as_slice())?;
+    all_of(alloc, drawn)
 }

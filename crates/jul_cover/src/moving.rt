@@ -4,6 +4,7 @@ ghost use Rattle.std.specs.List.{flat_map};
 ghost use Rattle.jul_subset.specs.Chunks.{chunk_of};
 ghost use Rattle.jul_cover.specs.PackedSets.{pack_at, ArePacked};
 ghost use Rattle.jul_cover.specs.CoverMoves.{next_place, move_of, moves_of, CanMove};
+ghost use Rattle.jul_cover.specs.KeptTurns.{leaving_of};
 
 use crate::packed_sets::PackedSets;
 use crate::packing::size_of;
@@ -120,4 +121,34 @@ pub(crate) fn moves_after<R: Threads + Sync, G: Gate>(
     };
     let done = run_all(rt, alloc, &crew, chunks, &job, Free::root())?;
     joined(alloc, &done.outs)
+}
+
+/// The moves of those of the listed sets that are in this bucket and belong elsewhere: to the bucket of what is left of
+/// them, or into none where they were chosen or nothing is left.
+pub(crate) fn moves_from(
+    alloc: Global,
+    listed: &[u32],
+    bucket: u64,
+    packs: &PackedSets,
+    round: &[u64],
+    buckets: &Buckets,
+) -> Result<Vec<(u32, u64)>, AllocError>
+    requires packed { ArePacked packs.now }
+    requires round { length round.now ≡ packs.now.n }
+    requires places { length buckets.now.places ≡ packs.now.n }
+    requires in_range { All (λ s. s < packs.now.n) listed.now }
+
+    ensures { IfOk result (λ moves.
+        moves.items ≡ leaving_of (pack_at packs.now) round.now buckets.now.places bucket listed.now) }
+{
+    let mut moves = Vec::new(alloc);
+    for s in listed {
+        if buckets.place(*s) == bucket {
+            let next = next_of(packs, round, *s);
+            if next != bucket {
+                moves.push((*s, next))?;
+            }
+        }
+    }
+    Ok(moves)
 }

@@ -57,6 +57,13 @@ impl ScannedBuckets {
         Ok(Some((bucket, ids)))
     }
 
+    pub fn next_bucket_in_place(&mut self) -> Result<Option<(u64, Vec<u32>)>, AllocError> {
+        let places = Vec::from_slice(self.alloc, self.places.as_slice())?;
+        let drawn = self.next_bucket()?;
+        self.places = places;
+        Ok(drawn)
+    }
+
     pub fn get_bucket(&self, prev: u64, next: u64) -> Dest {
         if next == NONE || next == prev {
             return Dest::Null;

@@ -1,18 +1,20 @@
 use Rattle.std.proofs.Common.{◌<◌}
 use Rattle.std.specs.List.{All}
 use Rattle.std.specs.List.Sorted.{IsStrictlyIncreasing}
-use Rattle.jul_cover.specs.PackedSets.{AreOpen}
+use Rattle.jul_cover.specs.PackedSets.{pack_at, AreOpen}
 use Rattle.jul_cover.specs.CoverWork.{IsCovering, remaining}
-use Rattle.jul_cover.specs.KeptTurns.{IsKeeping}
+use Rattle.jul_cover.specs.KeptTurns.{AreRight, IsKeeping}
 use Rattle.jul_cover.proofs.kept_rounds.kept_rounds.Given as goal
 
 abbrev pub invariant-rounds : goal.invariant-rounds
 invariant-rounds g l =
     IsCovering l.sets l.bids l.owners l.fn.at.bids.home l.fn.at.owners.home l.packs l.round l.by (record { round = l.at.round; bids = l.at.bids; owners = l.at.owners }) l.buckets
     × AreOpen l.marks l.by
-    × IsKeeping l.sets l.at.round l.last l.packs l.known.items
-    × All (λ s. s < l.packs.n) l.known.items
-    × IsStrictlyIncreasing l.known.items
+    × IsKeeping l.sets l.at.round l.last l.packs l.watched.candidates.items
+    × All (λ s. s < l.packs.n) l.watched.candidates.items
+    × IsStrictlyIncreasing l.watched.candidates.items
+    × AreRight l.buckets.places l.last (pack_at l.packs) l.round l.watched.changed.items
+    × All (λ s. s < l.packs.n) l.watched.changed.items
 
 abbrev pub decreases-rounds : goal.decreases-rounds
 decreases-rounds g l = remaining l.buckets.places

@@ -21,6 +21,7 @@ returns-in_err-end-clause-queue c =
     let end : IsEnd (length c.args.self.now.near.items) c.args.self.now.base c.args.self.now.end (slice_index c.args.self.now.bounds 0) c.args.self.now.end = record { later = omega arith; few = omega (arith, inv.lists.end_few, inv.lists.near); before = inv.lists.end_near } in
     record {
       based = inv.based;
+      near = inv.near;
       ranked = inv.ranked;
       lists = AreLists-grown n s.near_count s.base s.end s.end s.bounds s.near.items c.put_moves.new.near.items s.levels.items c.put_moves.new.levels.items inv.lists near levels end;
       covered = AreCovered-grown n s.base s.end s.end s.ranks.items s.bounds s.near.items c.put_moves.new.near.items s.levels.items c.put_moves.new.levels.items (omega arith) near levels inv.covered;
@@ -49,6 +50,7 @@ returns-clause-queue c =
     let C : List ℕ → Type 0 = λ l. AreCovered l lists in
     record {
       based = c.requires.queue.based;
+      near = c.requires.queue.near;
       ranked = IsRanked-set _ order moves _ inv.ranked after (subst (All (λ r. r ≤ NONE)) (sym kept) c.set_ranks.ensures.fits) late;
       lists = subst P (sym len) (AreLists-grown n s.near_count s.base s.end c.in_ok-end.end s.bounds s.near.items c.put_moves.new.near.items s.levels.items c.put_moves.new.levels.items inv.lists near levels c.in_ok-end.ensures.end);
       covered = subst C (sym after) (λ id lt some.
