@@ -6,26 +6,28 @@ use Rattle.jul_adj.specs.declared.faults.StreamError.{StreamError}
 use Rattle.std.proofs.lemmas.Bool.{cases_lt, lt-ltb, le-ltb, cond-true, cond-false}
 use Rattle.std.proofs.lemmas.List.{take_all, length-append, length-take-le}
 use Rattle.jul_base.specs.declared.graphs.RawGraph.{RawGraph}
-use Rattle.jul_base.specs.Shelves.{ShelfState, Told, Moves, contents, after_open, after_read, files_and_last}
+use Rattle.jul_base.specs.Shelves.{ShelfState, Told, contents, after_open, after_read, files_and_last}
 use Rattle.jul_base.specs.Loading.{bytes_of, IsLoaded, StoppedLoading}
 use Rattle.jul_base.proofs.LoadingLaws.{IsLoading, IsLoading-more, IsLoaded-full, IsLoaded-end}
 use Rattle.jul_text.specs.Tokens.{tokens}
 use Rattle.jul_adj.specs.declared.faults.Fault.{Fault}
 use Rattle.jul_adj.specs.declared.faults.FaultKind.TheVariants.{TooLong}
-use Rattle.jul_adj.specs.declared.intakes.Intake.{Intake}
+use Rattle.jul_adj.specs.declared.pipelines.Pipeline.{Pipeline}
 use Rattle.jul_adj.specs.declared.faults.ReadError.{ReadError}
 use Rattle.jul_adj.specs.declared.faults.ReadError.TheVariants as read_errors
 use Rattle.jul_adj.specs.Names.{streamed}
-use Rattle.jul_adj.specs.Reading.{reads, read_tokens, Fails}
-use Rattle.jul_adj.specs.Intakes.{HasTaken}
+use Rattle.jul_adj.specs.Reading.{reads, read_tokens, Fails, Gives}
+use Rattle.jul_adj.specs.Blocks.{bytes_in, IsReadOn}
+use Rattle.jul_adj.specs.Pipelines.{HasReadOn}
 use Rattle.jul_adj.specs.Streaming.{IsStreamed, IsUnread}
+use Rattle.jul_adj.proofs.BlockLaws.{nothing_more}
 
--- as many bytes of the file were taken
-pub record IsStreaming (old now : ShelfState) (name : List ℕ) (taken : ℕ) (i : Intake) : Type 0 where
+-- as many bytes of the file were read
+pub record IsStreaming (old now : ShelfState) (name : List ℕ) (read : ℕ) (p : Pipeline) : Type 0 where
   pub bytes : List ℕ
   pub loading : IsLoading old now name bytes
-  pub took : HasTaken bytes i
-  pub count : length bytes ≡ taken
+  pub held : HasReadOn bytes p
+  pub count : length bytes ≡ read
 
 -- what the first limit + 1 bytes say is what the file says
 first_bytes_say : (limit : ℕ) (file bytes : List ℕ) → bytes ≡ take (limit + 1) file → reads file limit ≡ reads bytes limit
@@ -52,28 +54,33 @@ short_says bytes limit le = cond-false _ _ _ (le-ltb limit (length bytes) le)
 pub long_says : (bytes : List ℕ) (limit : ℕ) → limit < length bytes → reads bytes limit ≡ Err (record { kind = TooLong; token = 0; at = limit })
 long_says bytes limit lt = cond-true _ _ _ (lt-ltb limit (length bytes) lt)
 
-module _ (old now : ShelfState) (name : List ℕ) (limit taken : ℕ) (i : Intake) (s : IsStreaming old now name taken i) where
+module _ (old now : ShelfState) (name : List ℕ) (limit read : ℕ) (p : Pipeline) (s : IsStreaming old now name read p) where
   -- nothing is left
-  pub stream_end : (next : ShelfState) (block block' : List ℕ) (count : ℕ) (said : Result RawGraph Fault) → taken ≤ limit → 0 < length block → count ≡ 0 → IfSome now.told (λ t. Moves t count block block') → next.told ≡ option_map (after_read count) now.told →
+  pub stream_end : (next : ShelfState) (count : ℕ) (more : List ℕ) (said : Result RawGraph Fault) → read ≤ limit → count ≡ 0 → IsReadOn now next count more →
       read_tokens (tokens s.bytes) (length s.bytes) ≡ said → IsStreamed old next name limit said
-  stream_end next block block' count said le some none moves read is =
+  stream_end next count more said le none r is =
       let short : length s.bytes ≤ limit = omega (arith, s.count, le) in
-      loaded_is_streamed old next name s.bytes limit said (IsLoaded-end old now next name s.bytes block block' (limit + 1) count s.loading (omega (arith, short)) some none moves read) (short_says s.bytes limit short ∙ is)
+      loaded_is_streamed old next name s.bytes limit said (IsLoaded-end old now next name s.bytes r.asked r.answer (limit + 1) count s.loading (omega (arith, short)) r.some none r.moves r.told) (short_says s.bytes limit short ∙ is)
 
-  -- one byte more than a file may have was taken
-  pub stream_full : taken ≡ limit + 1 → IsStreamed old now name limit (Err (record { kind = TooLong; token = 0; at = limit }))
+  -- one byte more than a file may have was read
+  pub stream_full : read ≡ limit + 1 → IsStreamed old now name limit (Err (record { kind = TooLong; token = 0; at = limit }))
   stream_full all =
       loaded_is_streamed old now name s.bytes limit _ (IsLoaded-full old now name s.bytes (limit + 1) s.loading (s.count ∙ all)) (long_says s.bytes limit (omega (arith, s.count, all)))
 
   -- one more block
-  pub stream_more : (next : ShelfState) (block block' more : List ℕ) (count : ℕ) (i' : Intake) → IfSome now.told (λ t. Moves t count block block') → next.told ≡ option_map (after_read count) now.told → count ≤ length block' →
-      ((b : List ℕ) → HasTaken b i → HasTaken (b ++ take count (block' ++ more)) i') → IsStreaming old next name (taken + count) i'
-  stream_more next block block' more count i' moves read le took = record {
-    bytes = s.bytes ++ take count (block' ++ more);
-    loading = IsLoading-more old now next name s.bytes (s.bytes ++ take count (block' ++ more)) block block' more count s.loading moves read le refl;
-    took = took s.bytes s.took;
-    count = length-append s.bytes (take count (block' ++ more)) ∙ omega (arith, s.count, length-take-le count (block' ++ more) (omega (arith, le, length-append block' more)));
+  pub stream_more : (next : ShelfState) (p' : Pipeline) → IsReadOn now next p'.ahead.count (bytes_in p'.ahead) → ((bytes : List ℕ) → HasReadOn bytes p → HasReadOn (bytes ++ bytes_in p'.ahead) p') → IsStreaming old next name (read + p'.ahead.count) p'
+  stream_more next p' r held = record {
+    bytes = s.bytes ++ bytes_in p'.ahead;
+    loading = IsLoading-more old now next name s.bytes (s.bytes ++ bytes_in p'.ahead) r.asked r.answer r.more p'.ahead.count s.loading r.moves r.told r.within (ap (λ xs. s.bytes ++ xs) r.are);
+    held = held s.bytes s.held;
+    count = length-append s.bytes (bytes_in p'.ahead) ∙ omega (arith, s.count, ap length r.are, length-take-le p'.ahead.count (r.answer ++ r.more) (omega (arith, r.within, length-append r.answer r.more)));
   }
+
+  -- what the bytes say of which all were taken
+  pub said_at_end : (next : ShelfState) (p' : Pipeline) (g : Result RawGraph ReadError) → p'.ahead.count ≡ 0 → IsReadOn now next p'.ahead.count (bytes_in p'.ahead) → ((bytes : List ℕ) → HasReadOn bytes p → HasReadOn (bytes ++ bytes_in p'.ahead) p') →
+      ((bytes : List ℕ) → HasReadOn bytes p' → Gives g (read_tokens (tokens bytes) (length bytes))) → Gives g (read_tokens (tokens s.bytes) (length s.bytes))
+  said_at_end next p' g none r held gives =
+      subst (λ b. Gives g (read_tokens (tokens b) (length b))) (nothing_more now next p'.ahead.count s.bytes (bytes_in p'.ahead) r none) (gives (s.bytes ++ bytes_in p'.ahead) (held s.bytes s.held))
 
 -- why a file that was read to its end has no graph
 pub unread : (old new : ShelfState) (name : List ℕ) (limit : ℕ) (e : ReadError) (read : Result RawGraph Fault) → Fails e read → ((fault : Fault) → read ≡ Err fault → IsStreamed old new name limit (Err fault)) → StoppedLoading old new name → IsUnread old new name limit (streamed e)

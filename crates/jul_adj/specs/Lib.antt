@@ -5,6 +5,8 @@ pub mod Reading
 pub mod Readings
 pub mod Intakes
 pub mod Cutting
+pub mod Blocks
+pub mod Pipelines
 pub mod Rules
 pub mod Storing
 pub mod Values

@@ -3,18 +3,16 @@ ghost use Rattle.std.specs.Prelude.{◌≡◌, ℕ, ◌+◌, ◌<◌, ◌≤◌,
 ghost use Rattle.jul_text.specs.Tokens.{tokens};
 ghost use Rattle.jul_text.specs.Cuts.{EndsWhite, AreCutPoints};
 ghost use Rattle.jul_adj.specs.Cutting.{IsReadAs, AreCutsRead};
+ghost use Rattle.jul_adj.specs.Blocks.{bytes_in, IsBlock, AreNumbersOf};
 ghost use Rattle.jul_adj.specs.Reading.{read_tokens, Gives};
 
-use crate::cutting::{PIECE, pieces, read_together, team_for};
+use crate::blocks::{Block, Numbers};
+use crate::cutting::PIECE;
 use crate::faults::ReadError;
 use crate::readings::Reading;
-use crate::spares::{Stack, give_back};
-use jul_base::{Gate, RawGraph};
-use jul_pool::Team;
-use jul_text::{Feeder, Mark, cut_points, read_numbers, white_span};
+use jul_base::RawGraph;
+use jul_text::{Feeder, Mark, read_numbers, white_span};
 use std::alloc::{AllocError, Global};
-use std::mem;
-use std::thread::Threads;
 
 /// A graph file of which some bytes were taken.
 #[derive(Drop)]
@@ -25,8 +23,6 @@ pub(crate) struct Intake {
     marks: Vec<Mark>,
     // The numbers of the latest piece, if it was read as numbers.
     values: Vec<u32>,
-    // Lists that threads have filled, to be filled again.
-    stacks: Vec<Stack>,
 }
 
 // A part of a text.
@@ -52,7 +48,6 @@ impl Intake {
             reading: Reading::new(alloc),
             marks: Vec::new(alloc),
             values: Vec::new(alloc),
-            stacks: Vec::new(alloc),
         }
     }
 
@@ -168,64 +163,43 @@ impl Intake {
         Ok(())
     }
 
-    /// Takes the next bytes of the file. Several threads read the numbers between their first and their last white
-    /// byte, where that is worth it.
-    pub(crate) fn feed_block<R: Threads + Sync, G: Gate>(
-        &mut self,
-        rt: &R,
-        alloc: Global,
-        team: &Team<'_, G>,
-        block: &[u8],
-    ) -> Result<(), AllocError>
-        requires size { length block.now ≤ 4194304 }
-        requires count { self.old.feeder.fed + length block.now < 2 ^ 63 }
+    // Takes the next bytes, of whose numbers threads have read what they could.
+    fn feed_numbers(&mut self, bytes: &[u8], numbers: &Numbers) -> Result<(), AllocError>
+        requires numbers { AreNumbersOf bytes.now numbers.now }
+        requires count { self.old.feeder.fed + length bytes.now < 2 ^ 63 }
 
-        ensures taken { (b : List ℕ) → HasTaken b self.old → OnOk result (HasTaken (b ++ block.now) self.new) }
-        ensures count { OnOk result (self.new.feeder.fed ≡ self.old.feeder.fed + length block.now) }
+        ensures taken { (b : List ℕ) → HasTaken b self.old → OnOk result (HasTaken (b ++ bytes.now) self.new) }
+        ensures count { OnOk result (self.new.feeder.fed ≡ self.old.feeder.fed + length bytes.now) }
     {
-        let team = team_for(team, block.len());
-        let Some(bound) = self.reading.bound() else {
-            return self.feed_pieces(block);
-        };
-        if team.workers == 1 {
-            return self.feed_pieces(block);
-        }
-        match white_span(block) {
-            Some((first, last)) => {
-                self.feed(&block[..first])?;
-                self.feed_together(rt, alloc, &team, &block[first..last], bound)?;
-                self.feed(&block[last..])
-            }
-            None => self.feed(block),
-        }
+        let first = numbers.first;
+        let last = numbers.last;
+        self.feed(&bytes[..first])?;
+        self.feed_cuts(
+            &bytes[first..last],
+            &numbers.points,
+            &numbers.cuts,
+            numbers.bound,
+        )?;
+        self.feed(&bytes[last..])
     }
 
-    // Takes the next bytes, which end in a white byte, as those before do. Their numbers up to a bound are read by
-    // several threads.
-    fn feed_together<R: Threads + Sync, G: Gate>(
-        &mut self,
-        rt: &R,
-        alloc: Global,
-        team: &Team<'_, G>,
-        middle: &[u8],
-        bound: u32,
-    ) -> Result<(), AllocError>
-        requires white { EndsWhite middle.now }
-        requires size { length middle.now ≤ 4194304 }
-        requires count { self.old.feeder.fed + length middle.now < 2 ^ 63 }
+    /// The greatest number that the next tokens may be, where they are several that are alike. Takes no memory.
+    pub(crate) fn bound(&self) -> Option<u32> {
+        self.reading.bound()
+    }
 
-        ensures taken { (b : List ℕ) → HasTaken b self.old → EndsWhite b
-            → OnOk result (HasTaken (b ++ middle.now) self.new) }
-        ensures count { OnOk result (self.new.feeder.fed ≡ self.old.feeder.fed + length middle.now) }
+    /// Takes a block, the next bytes of the file.
+    pub(crate) fn feed_block(&mut self, block: &Block) -> Result<(), AllocError>
+        requires block { IsBlock block.now }
+        requires count { self.old.feeder.fed + block.now.count < 2 ^ 63 }
+
+        ensures taken { (b : List ℕ) → HasTaken b self.old → OnOk result (HasTaken (b ++ bytes_in block.now) self.new) }
+        ensures count { OnOk result (self.new.feeder.fed ≡ self.old.feeder.fed + block.now.count) }
     {
-        let pieces = pieces(middle.len());
-        let points = cut_points(alloc, middle, pieces)?;
-        let stacks = mem::replace(&mut self.stacks, Vec::new(alloc));
-        let read = read_together(rt, alloc, team, middle, &points, pieces, bound, stacks)?;
-        self.feed_cuts(middle, &points, &read.cuts, bound)?;
-        self.stacks = read.stacks;
-        give_back(read.cuts, &mut self.stacks);
-        Ok(())
+        match &block.numbers {
+            Some(numbers) => self.feed_numbers(block.bytes(), numbers),
+            None => self.feed_pieces(block.bytes()),
+        }
     }
 
     /// What the file says, of which all bytes were taken.
@@ -237,7 +211,6 @@ impl Intake {
             mut reading,
             marks: _,
             values: _,
-            stacks: _,
         } = self;
         let len = feeder.count();
         if let Some(last) = feeder.finish() {

@@ -6,6 +6,7 @@
 //! graph from a seed.
 #![tactic(auto)]
 
+mod blocks;
 mod cutting;
 mod drawing;
 mod faults;
@@ -14,6 +15,7 @@ mod generating;
 mod intakes;
 mod joining;
 mod lists;
+mod pipelines;
 mod reading;
 mod readings;
 mod remainders;

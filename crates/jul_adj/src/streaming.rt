@@ -4,7 +4,7 @@ ghost use Rattle.jul_base.specs.Graph.{IsLawful};
 ghost use Rattle.jul_adj.specs.Streaming.{IsStreamed, IsUnread};
 
 use crate::faults::{Fault, FaultKind, ReadError, StreamError};
-use crate::intakes::Intake;
+use crate::pipelines::Pipeline;
 use jul_base::{Gate, MAX_BYTES, RawGraph, Shelf};
 use jul_pool::Team;
 use std::alloc::Global;
@@ -16,10 +16,11 @@ pub const MAX_BLOCK: usize = 4_194_304;
 /// Reads the graph of the file of this name, or tells its first fault, as `read_graph` does, in blocks of at most
 /// `block` bytes.
 ///
-/// Workers of the team make the marks of the tokens between the first and the last white byte of a block, where it
-/// is long enough; no token is ever cut. The file is read to its end, also behind a fault, or until `limit + 1` bytes
-/// were taken, which is the fault `TooLong`. Takes memory for the graph, one block and the marks of its tokens. After
-/// `Failed` or `Memory` a part of the file may have been read.
+/// Other workers of the team read the numbers between the first and the last white byte of a block, where it is long
+/// enough, while the calling thread takes those of the block before and reads the next block; no token is ever cut. The
+/// file is read to its end, also behind a fault, or until `limit + 1` bytes were read, which is the fault `TooLong`.
+/// Takes memory for the graph, two blocks and their numbers. After `Failed` or `Memory` a part of the file may have been
+/// read.
 pub fn read_stream<R: Threads + Sync, F: Shelf, G: Gate>(
     rt: &R,
     alloc: Global,
@@ -41,18 +42,15 @@ pub fn read_stream<R: Threads + Sync, F: Shelf, G: Gate>(
     ensures faults { (F.state files.old).faults ≤ (F.state files.new).faults }
 {
     files.open(name)?;
-    let mut intake = Intake::new(alloc);
-    let mut room = vec![in alloc; 0u8; block]?;
-    let bytes = room.as_mut_slice();
-    let mut taken: u64 = 0;
-    while taken <= limit {
-        let most = left(block, limit - taken);
-        let count = files.read(&mut bytes[..most])?;
+    let mut pipeline = Pipeline::new(alloc);
+    let mut read: u64 = 0;
+    while read <= limit {
+        pipeline.advance(rt, alloc, team, files, left(block, limit - read))?;
+        let count = pipeline.last_count();
         if count == 0 {
-            return Ok(intake.finish()?);
+            return Ok(pipeline.finish()?);
         }
-        intake.feed_block(rt, alloc, team, &bytes[..count])?;
-        taken += count as u64;
+        read += count as u64;
     }
     Err(StreamError::Bad(Fault {
         kind: FaultKind::TooLong,

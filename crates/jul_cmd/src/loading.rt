@@ -20,7 +20,7 @@ use jul_witness::{Witness, read_witness};
 use std::alloc::Global;
 use std::thread::Threads;
 
-/// The most bytes of a graph file that are held at a time.
+/// The most bytes of a graph file that are read at a time.
 const BLOCK: usize = 1_048_576;
 
 // The bytes of the witness file of this name.

@@ -1,16 +1,17 @@
-use Rattle.std.proofs.Common.{◌≡◌, ◌+◌, ◌-◌, ◌≤◌, true, length}
+use Rattle.std.proofs.Common.{◌≡◌, ◌+◌, ◌-◌, ◌≤◌, true}
+use Rattle.jul_adj.specs.Pipelines.{AreBlocks, bytes_read}
 use Rattle.jul_adj.proofs.StreamLaws.{IsStreaming}
 use Rattle.jul_adj.proofs.streaming.read_stream.Given as goal
 
-abbrev pub invariant-loop-taken : goal.invariant-loop-taken
-invariant-loop-taken g l = record {
-  streaming : IsStreaming (g.F.Shelf.state l.fn.files) (g.F.Shelf.state l.files) l.name l.taken l.intake;
+abbrev pub invariant-loop-read : goal.invariant-loop-read
+invariant-loop-read g l = record {
+  streaming : IsStreaming (g.F.Shelf.state l.fn.files) (g.F.Shelf.state l.files) l.name l.read l.pipeline;
   is_open : (g.F.Shelf.state l.files).is_open ≡ true;
-  within : l.taken ≤ l.limit + 1;
-  count : l.intake.feeder.fed ≡ l.taken;
-  block : length l.bytes ≡ l.block;
+  within : l.read ≤ l.limit + 1;
+  blocks : AreBlocks l.pipeline;
+  count : bytes_read l.pipeline ≡ l.read;
   faults : (g.F.Shelf.state l.fn.files).faults ≤ (g.F.Shelf.state l.files).faults;
 }
 
-abbrev pub decreases-loop-taken : goal.decreases-loop-taken
-decreases-loop-taken g l = l.limit + 1 - l.taken
+abbrev pub decreases-loop-read : goal.decreases-loop-read
+decreases-loop-read g l = l.limit + 1 - l.read
