@@ -113,7 +113,7 @@ fn lower_reached<R: Threads + Sync, G: Gate>(
 {
     let n = rows.n();
     let work = work_to_share(team.workers, rows, drawn.as_slice());
-    let crew = team.for_work(work);
+    let crew = team.for_members(drawn.len(), work);
     let from = VertexSubset::from_increasing(alloc, n, drawn);
     let (list, seat) = edge_map_count(rt, alloc, &crew, rows, &from, counts, seat)?;
     let moves = moves_down(rt, alloc, team, list.as_slice(), bucket, buckets)?;
