@@ -1,16 +1,18 @@
 -- The columns of levels and cores, written draw by draw.
 use Rattle.std.proofs.Common.{◌≡◌, ℕ, ◌+◌, ◌<◌, List, [], ◌∷◌, ◌++◌, length, get_or, set, take, sym, ◌∙◌, ap, subst, refl, arith, inl, inr}
-use Rattle.std.specs.List.{Contains}
+use Rattle.std.specs.List.{All, Contains}
 use Rattle.std.proofs.lemmas.Bool.{cases_eq}
-use Rattle.std.proofs.lemmas.List.{take_more, get_or-set_same, get_or-set_other, length-set}
+use Rattle.std.proofs.lemmas.List.{get_or_default, take_more, get_or-set_same, get_or-set_other, length-set}
 use Rattle.std.proofs.lemmas.List.Elements.{Contains-push, Contains-push_cases, Contains-append_left}
 use Rattle.jul_base.specs.declared.graphs.RawGraph.{RawGraph}
 use Rattle.jul_base.specs.declared.results.Cores.{Cores}
-use Rattle.jul_base.specs.Graph.{vertices}
+use Rattle.jul_base.specs.Graph.{vertices, IsLawful}
 use Rattle.jul_base.specs.Levels.{next_bound, taken, peeling}
-use Rattle.jul_core.specs.Peels.{draws_before, draw_at, AreCoredBy, AreWritten}
+use Rattle.jul_base.proofs.PeelLaws.{All-from_has}
+use Rattle.jul_core.specs.Peels.{draws_before, draw_at, draw_in, AreCoredBy, AreWritten}
 use Rattle.jul_bucket.specs.declared.draws.Draw.{Draw}
 use Rattle.jul_core.proofs.PeelStatements.{ColumnsKeep}
+use Rattle.jul_core.proofs.StageLaws.{IsStage-at, taken-is}
 use Rattle.jul_core.proofs.DrawLaws.{level_once, length-draws, draw_at-is}
 
 -- any columns of the right length are right before the first draw
@@ -60,6 +62,31 @@ columns_keep g t old new cored levels cores = record {
       v u v_lt lt (ids-there g (t + 1) u v lt held)
       ∙ sym (bucket-is g (t + 1) u lt);
 }
+
+-- ---- a loop that writes each draw
+
+module _ (g : RawGraph) (lawful : IsLawful g) (draws : List Draw) (are : draws ≡ draws_before g (length draws)) (t : ℕ) (d : Draw) (lt : t < length draws) (at : d ≡ get_or draws t d) (ids : List ℕ) (ids_are : ids ≡ d.ids) where
+  draw-is : d ≡ draw_in g (peeling g t)
+  draw-is =
+      at ∙ get_or_default draws t d (record { bucket = 0; ids = [] }) lt
+      ∙ ap (λ l. get_or l t (record { bucket = 0; ids = [] })) are ∙ draw_at-is g (length draws) t lt
+
+  taken-are : ids ≡ taken g (peeling g t)
+  taken-are = ids_are ∙ ap (λ (d : Draw). d.ids) draw-is
+
+  -- its ids have a row in a column
+  pub ids_in : (column : List ℕ) → length column ≡ vertices g → All (λ v. v < length column) ids
+  ids_in column size =
+      subst (All (λ v. v < length column)) (sym taken-are)
+      (All-from_has (λ v. v < length column) (taken g (peeling g t)) (λ v h. subst (λ n. v < n) (sym size) ((IsStage-at g lawful t).within v (taken-is g (peeling g t) v h).0)))
+
+  pub one_more : (old new : Cores) → AreCoredBy g (draws_before g t) old → AreWritten ids t old.level new.level → AreWritten ids d.bucket old.core new.core →
+      AreCoredBy g (draws_before g (t + 1)) new
+  one_more old new cored levels cores =
+      columns_keep g t old new cored
+      (subst (λ l. AreWritten l t old.level new.level) taken-are levels)
+      (subst (λ b. AreWritten (taken g (peeling g t)) b old.core new.core) (ap (λ (d : Draw). d.bucket) draw-is)
+      (subst (λ l. AreWritten l d.bucket old.core new.core) taken-are cores))
 
 -- ---- a loop that writes a number at each id
 

@@ -1,15 +1,13 @@
 -- A turn of the loop, from the draw to the next one.
-use Rattle.std.proofs.Common.{◌≡◌, ◌≢◌, ℕ, ◌+◌, ◌-◌, ◌<◌, ◌≤◌, ◌^◌, List, [], ◌++◌, length, length-append, false, get_or, take, drop, sym, ◌∙◌, ap, subst, refl, arith, inl, inr, Vec, Global}
+use Rattle.std.proofs.Common.{◌≡◌, ◌≢◌, ℕ, ◌+◌, ◌-◌, ◌<◌, ◌≤◌, ◌^◌, List, [], length, length-append, false, get_or, sym, ◌∙◌, ap, subst, refl, arith, inl, inr, Vec, Global}
 use Rattle.std.specs.Prelude.{All, slice_index, Option, MatchOption, Some}
 use Rattle.std.specs.List.Sorted.{IsStrictlyIncreasing}
 use Rattle.std.proofs.lemmas.Bool.{cases_eq}
 use Rattle.std.proofs.lemmas.List.{length-map, length-replicate}
 use Rattle.std.proofs.lemmas.List.Elements.{All-map}
-use Rattle.std.proofs.Math.Seq.{take-append_seam}
 use Rattle.jul_subset.proofs.IncreasingLaws.{length_below}
 use Rattle.jul_base.specs.declared.graphs.RawGraph.{RawGraph}
 use Rattle.jul_base.specs.declared.limits.TheConstants.{NONE}
-use Rattle.jul_base.specs.declared.results.Cores.{Cores}
 use Rattle.jul_base.specs.Graph.{vertices, IsLawful}
 use Rattle.jul_base.specs.Logs.{Home}
 use Rattle.jul_base.specs.Symmetry.{IsSymmetric}
@@ -22,7 +20,7 @@ use Rattle.jul_bucket.specs.Places.{ids_at, emptied, set_places, AllNone}
 use Rattle.jul_bucket.specs.States.{State, IsDrawn}
 use Rattle.jul_count.specs.Adds.{CanCount}
 use Rattle.jul_core.specs.FirstHeld.{IsFirstHeld}
-use Rattle.jul_core.specs.Peels.{AreWritten, AreDegrees}
+use Rattle.jul_core.specs.Peels.{AreDegrees}
 use Rattle.jul_core.specs.PeelMoves.{CanLower}
 use Rattle.jul_subset.specs.Subsets.{Subset}
 use Rattle.jul_core.specs.PeelWork.{IsPeeling, CanRound, HasRound, IsPeeledOut, work_of}
@@ -37,7 +35,7 @@ pub drawn_at : (s mid : State) (o : Option (ℕ × Vec ℕ Global)) (b : ℕ) (i
     MatchOption o (AllNone s.places × (mid ≡ s)) (λ d. IsDrawn s d.0 d.1.items mid) → IsDrawn s b ids.items mid
 drawn_at s mid o b ids is h = subst (λ x. MatchOption x (AllNone s.places × (mid ≡ s)) (λ d. IsDrawn s d.0 d.1.items mid)) is h
 
-module _ (g : RawGraph) (lawful : IsLawful g) (table : List ℕ) (home : Home) (core level : List ℕ) (seat : Seat) (s : State) (h : IsPeeling g table home core level seat s)
+module _ (g : RawGraph) (lawful : IsLawful g) (table : List ℕ) (home : Home) (seat : Seat) (s : State) (h : IsPeeling g table home seat s)
     (bucket : ℕ) (ids : List ℕ) (mid : State) (drawn : IsDrawn s bucket ids mid) where
   places_are : mid.places ≡ emptied s.places bucket
   places_are = ap (λ (s : State). s.places) drawn.after
@@ -50,10 +48,6 @@ module _ (g : RawGraph) (lawful : IsLawful g) (table : List ℕ) (home : Home) (
 
   subset : IsStrictlyIncreasing ids × All (λ v. v < vertices g) ids
   subset = subst (λ l. IsStrictlyIncreasing l × All (λ v. v < vertices g) l) (sym drawn.ids_are) (ids_are_a_subset g s.places bucket size)
-
-  -- the ids have a row in a column
-  pub ids_in : (column lent : List ℕ) → lent ≡ ids → length column ≡ vertices g → All (λ v. v < length column) lent
-  ids_in column lent same e = subst (λ l. All (λ v. v < length column) l) (sym same) (subst (λ n. All (λ v. v < n) ids) (sym e) subset.1)
 
   pub can_count : CanCount (vertices g) table seat
   can_count = record {
@@ -97,26 +91,21 @@ module _ (g : RawGraph) (lawful : IsLawful g) (table : List ℕ) (home : Home) (
       let few : length s.draws < vertices g = rounds_are_few g (length s.draws) bucket s.places s.draws lawful h.under_way.peeled first in
       omega (arith, few, draws_grew seat' new round)
 
-  module _ (core' level' : List ℕ) (lent lent' : List ℕ) (seat' : Seat) (new : State) (lent_is : lent ≡ ids) (lent_is' : lent' ≡ ids)
-      (levels : AreWritten lent (length s.draws) level level') (cores : AreWritten lent' bucket core core') (round : HasRound g bucket ids seat seat' mid new) where
-    pub still_peeling : IsSymmetric g → IsPeeling g table home core' level' seat' new
-    still_peeling symmetric =
-        let did = round.counted_is in
-        let homes : seat'.home ≡ seat.home = ap (λ (s : Seat). s.home) did.seat_is in
-        let old_columns : Cores = record { core = core; level = level } in
-        let new_columns : Cores = record { core = core'; level = level' } in
-        let goes = turn g bucket ids round.counts did.gained seat.log seat'.log s mid new old_columns new_columns h.order drawn
-        (subst (λ l. AreWritten l (length s.draws) level level') lent_is levels) (subst (λ l. AreWritten l bucket core core') lent_is' cores)
-        round.counts_are did.adds (ap (λ (s : Seat). s.log) did.seat_is) round.moved in
-        record {
-          under_way = work_goes_on g bucket ids round.counts did.gained (work_of s core level seat.log) (work_of new core' level' seat'.log) lawful symmetric h.under_way goes;
-          order = ap (λ (s : State). s.order) round.moved ∙ ap (λ (s : State). s.order) drawn.after ∙ h.order;
-          home_is = homes ∙ h.home_is;
-          of_table = ap (λ (h : Home). h.table) homes ∙ h.of_table;
-          words = ap (λ (h : Home). length h.starts) homes ∙ h.words;
-          alone = (ap (λ (s : Seat). s.root) did.seat_is ∙ h.alone.0, ap (λ (s : Seat). s.out) did.seat_is ∙ h.alone.1);
-          zero = round.zero;
-        }
+  pub still_peeling : IsSymmetric g → (seat' : Seat) (new : State) → HasRound g bucket ids seat seat' mid new → IsPeeling g table home seat' new
+  still_peeling symmetric seat' new round =
+      let did = round.counted_is in
+      let homes : seat'.home ≡ seat.home = ap (λ (s : Seat). s.home) did.seat_is in
+      let goes = turn g bucket ids round.counts did.gained seat.log seat'.log s mid new h.order drawn
+      round.counts_are did.adds (ap (λ (s : Seat). s.log) did.seat_is) round.moved in
+      record {
+        under_way = work_goes_on g bucket ids round.counts did.gained (work_of s seat.log) (work_of new seat'.log) lawful symmetric h.under_way goes;
+        order = ap (λ (s : State). s.order) round.moved ∙ ap (λ (s : State). s.order) drawn.after ∙ h.order;
+        home_is = homes ∙ h.home_is;
+        of_table = ap (λ (h : Home). h.table) homes ∙ h.of_table;
+        words = ap (λ (h : Home). length h.starts) homes ∙ h.words;
+        alone = (ap (λ (s : Seat). s.root) did.seat_is ∙ h.alone.0, ap (λ (s : Seat). s.out) did.seat_is ∙ h.alone.1);
+        zero = round.zero;
+      }
 
 -- what is counted, and lent, may be moved
 pub can_lower : (g : RawGraph) (table : List ℕ) (bucket : ℕ) (ids : List ℕ) (seat : Seat) (s : State) (from : Subset) (counts lent : List (ℕ × ℕ)) → CanRound g table bucket ids seat s →
@@ -140,15 +129,11 @@ counts_few g ids counts lawful are =
 
 -- ---- the first turn, and the last
 
--- a list that is written back over its vector
-pub written_back : (after before : List ℕ) (len : ℕ) → length after ≡ len → take len (after ++ drop (length after) before) ≡ after
-written_back after before len e = ap (λ n. take n (after ++ drop (length after) before)) (sym e) ∙ take-append_seam after (drop (length after) before)
-
-pub start_at : (g : RawGraph) → IsLawful g → (table : List ℕ) (core level : List ℕ) (seat : Seat) (s : State) → seat ≡ rooted (zeros table (vertices g)) → s.order ≡ Increasing → AreDegrees g s.places → s.draws ≡ [] →
-    length core ≡ vertices g → length level ≡ vertices g → IsPeeling g table seat.home core level seat s
-start_at g lawful table core level seat s seat_is order degrees none core_size level_size =
+pub start_at : (g : RawGraph) → IsLawful g → (table : List ℕ) (seat : Seat) (s : State) → seat ≡ rooted (zeros table (vertices g)) → s.order ≡ Increasing → AreDegrees g s.places → s.draws ≡ [] →
+    IsPeeling g table seat.home seat s
+start_at g lawful table seat s seat_is order degrees none =
     let empty : seat.log ≡ [] = ap (λ (s : Seat). s.log) seat_is in record {
-      under_way = work_starts g (work_of s core level seat.log) lawful (record { degrees = degrees; no_draws = none; no_entries = empty; core_size = core_size; level_size = level_size });
+      under_way = work_starts g (work_of s seat.log) lawful (record { degrees = degrees; no_draws = none; no_entries = empty });
       order = order;
       home_is = refl;
       of_table = ap (λ (s : Seat). s.home.table) seat_is;
@@ -157,5 +142,5 @@ start_at g lawful table core level seat s seat_is order degrees none core_size l
       zero = λ v near. ap (adds v) empty ∙ sym (ap (drained v) empty);
     }
 
-pub peeled_out : (g : RawGraph) → IsLawful g → (table : List ℕ) (home : Home) (core level : List ℕ) (seat : Seat) (s : State) → IsPeeling g table home core level seat s → AllNone s.places → IsPeeledOut g (work_of s core level seat.log)
-peeled_out g lawful table home core level seat s h none = work_ends g (work_of s core level seat.log) lawful h.under_way none
+pub peeled_out : (g : RawGraph) → IsLawful g → (table : List ℕ) (home : Home) (seat : Seat) (s : State) → IsPeeling g table home seat s → AllNone s.places → IsPeeledOut g (work_of s seat.log)
+peeled_out g lawful table home seat s h none = work_ends g (work_of s seat.log) lawful h.under_way none

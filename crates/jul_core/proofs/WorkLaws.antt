@@ -1,15 +1,10 @@
 -- The loop of a peeling: all that it carries, from one turn to the next.
-use Rattle.std.proofs.Common.{◌≡◌, ℕ, ◌+◌, [], ◌∷◌, ◌++◌, length, length-append, sym, ◌∙◌, ap, subst, arith}
-use Rattle.jul_base.specs.Levels.{Peeling, next_bound, taken, peeling}
-use Rattle.jul_core.specs.Peels.{draws_before, IsPeeled, AreWritten, AreCoredBy}
+use Rattle.std.proofs.Common.{◌≡◌, ℕ, ◌+◌, [], ◌∷◌, ◌++◌, length, length-append, sym, ap, subst, arith}
+use Rattle.jul_core.specs.Peels.{IsPeeled}
 use Rattle.jul_bucket.specs.declared.draws.Draw.{Draw}
-use Rattle.jul_bucket.specs.Places.{ids_at}
 use Rattle.jul_core.specs.PeelPlaces.{HasAddsOf}
 use Rattle.jul_core.proofs.PeelStatements.{WorkStarts, WorkGoesOn, WorkEnds}
-use Rattle.jul_core.proofs.StageLaws.{IsStage, IsStage-at}
-use Rattle.jul_core.proofs.RoundLaws.{first-is_bound, ids-are_taken}
 use Rattle.jul_core.proofs.PeelStatementLaws.{degrees_start, each_is_drawn_once, columns_are_right}
-use Rattle.jul_core.proofs.ColumnLaws.{cored-start, columns_keep}
 use Rattle.jul_core.proofs.AddLaws.{adds_start, adds_keep, adds_are_all}
 use Rattle.jul_core.proofs.WholeLaws.{whole_rounds_keep}
 
@@ -20,36 +15,22 @@ work_starts g w lawful start =
     let adds : HasAddsOf g [] w.log = subst (λ log. HasAddsOf g [] log) empty (adds_start g) in
     record {
       peeled = subst (λ l. IsPeeled g (length l) w.places l) none (degrees_start g w.places lawful start.degrees);
-      cored = subst (λ l. AreCoredBy g l w.columns) none (cored-start g w.columns start.core_size start.level_size);
       adds = subst (λ l. HasAddsOf g l w.log) none adds;
     }
 
 pub work_goes_on : WorkGoesOn
 work_goes_on g bucket ids counts gained old new lawful symmetric under_way goes =
     let t : ℕ = length old.draws in
-    let p : Peeling = peeling g t in
-    let stage : IsStage g p = IsStage-at g lawful t in
     let peeled : IsPeeled g t old.places old.draws = under_way.peeled in
     let draw : Draw = record { bucket = bucket; ids = ids } in
-    let is : bucket ≡ next_bound g p = first-is_bound g lawful p stage old.places bucket peeled.places_are goes.first in
-    let ids_are : ids ≡ taken g p = goes.ids_are ∙ ap (ids_at old.places) is ∙ ids-are_taken g lawful p stage old.places peeled.places_are in
     let peeled' : IsPeeled g (t + 1) new.places new.draws =
     whole_rounds_keep g t bucket old.places new.places ids old.draws new.draws counts lawful symmetric peeled goes.first goes.ids_are goes.counts_are
     goes.places_are goes.draws_are in
     let size : t + 1 ≡ length new.draws = omega (arith, ap length goes.draws_are, length-append old.draws (draw ∷ [])) in
-    let levels' : AreWritten (taken g p) t old.columns.level new.columns.level =
-    subst (λ l. AreWritten l t old.columns.level new.columns.level) ids_are goes.levels in
-    let cores' : AreWritten (taken g p) bucket old.columns.core new.columns.core =
-    subst (λ l. AreWritten l bucket old.columns.core new.columns.core) ids_are goes.cores in
-    let cores'' : AreWritten (taken g p) (next_bound g p) old.columns.core new.columns.core =
-    subst (λ b. AreWritten (taken g p) b old.columns.core new.columns.core) is cores' in
-    let cored : AreCoredBy g (draws_before g t) old.columns = subst (λ l. AreCoredBy g l old.columns) peeled.draws_are under_way.cored in
-    let cored' : AreCoredBy g (draws_before g (t + 1)) new.columns = columns_keep g t old.columns new.columns cored levels' cores'' in
     let adds : HasAddsOf g (old.draws ++ draw ∷ []) (old.log ++ gained) = adds_keep g old.draws draw old.log gained under_way.adds goes.gained_are in
     let adds' : HasAddsOf g new.draws (old.log ++ gained) = subst (λ l. HasAddsOf g l (old.log ++ gained)) (sym goes.draws_are) adds in
     record {
       peeled = subst (λ k. IsPeeled g k new.places new.draws) size peeled';
-      cored = subst (λ l. AreCoredBy g l new.columns) (sym peeled'.draws_are) cored';
       adds = subst (λ log. HasAddsOf g new.draws log) (sym goes.log_is) adds';
     }
 
@@ -57,7 +38,7 @@ pub work_ends : WorkEnds
 work_ends g w lawful under_way none =
     let t : ℕ = length w.draws in
     record {
-      columns = columns_are_right g t w.places w.draws w.columns lawful under_way.peeled none under_way.cored;
+      columns = λ cores cored. columns_are_right g t w.places w.draws cores lawful under_way.peeled none cored;
       levels = under_way.peeled.draws_are;
       once = each_is_drawn_once g t w.places w.draws lawful under_way.peeled none;
       adds = adds_are_all g t w.places w.draws w.log lawful under_way.peeled none under_way.adds;

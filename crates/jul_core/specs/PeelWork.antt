@@ -10,7 +10,7 @@ use Rattle.jul_bucket.specs.States.{State}
 use Rattle.jul_count.specs.Adds.{AreZero, CanCount, HasCounted}
 use Rattle.jul_base.specs.declared.limits.TheConstants.{NONE}
 use Rattle.std.specs.List.Sorted.{IsStrictlyIncreasing}
-use Rattle.jul_core.specs.Peels.{draws_before, IsPeeled, AreDegrees, AreWritten, AreCoredBy, AreCores, IsDrawnAt}
+use Rattle.jul_core.specs.Peels.{draws_before, IsPeeled, AreDegrees, AreCoredBy, AreCores, IsDrawnAt}
 use Rattle.jul_bucket.specs.declared.draws.Draw.{Draw}
 use Rattle.jul_bucket.specs.Places.{ids_at}
 use Rattle.jul_core.specs.FirstHeld.{IsFirstHeld}
@@ -20,17 +20,15 @@ use Rattle.jul_core.specs.PeelMoves.{moves_of}
 use Rattle.jul_count.specs.Counts.{AreCounts}
 use Rattle.jul_bucket.specs.Places.{emptied, set_places}
 
--- the places and draws of the buckets, the columns, and the entries of the log
+-- the places and draws of the buckets, and the entries of the log
 pub record Work : Type 0 where
   pub places : List ℕ
   pub draws : List Draw
-  pub columns : Cores
   pub log : List Entry
 
 -- what holds before each turn
 pub record IsUnderWay (g : RawGraph) (w : Work) : Type 0 where
   pub peeled : IsPeeled g (length w.draws) w.places w.draws
-  pub cored : AreCoredBy g w.draws w.columns
   pub adds : HasAddsOf g w.draws w.log
 
 -- nothing was drawn yet, and the buckets hold the degrees
@@ -38,35 +36,31 @@ pub record IsStart (g : RawGraph) (w : Work) : Type 0 where
   pub degrees : AreDegrees g w.places
   pub no_draws : w.draws ≡ []
   pub no_entries : w.log ≡ []
-  pub core_size : length w.columns.core ≡ vertices g
-  pub level_size : length w.columns.level ≡ vertices g
 
--- the first bucket was drawn, its ids' columns were written, what they reach was counted, and the moves were made
+-- the first bucket was drawn, what its ids reach was counted, and the moves were made
 pub record GoesOn (g : RawGraph) (bucket : ℕ) (ids : List ℕ) (counts : List (ℕ × ℕ)) (gained : List Entry) (old new : Work) : Type 0 where
   pub first : IsFirstHeld old.places bucket
   pub ids_are : ids ≡ ids_at old.places bucket
   pub draws_are : new.draws ≡ old.draws ++ record { bucket = bucket; ids = ids } ∷ []
-  pub levels : AreWritten ids (length old.draws) old.columns.level new.columns.level
-  pub cores : AreWritten ids bucket old.columns.core new.columns.core
   pub counts_are : AreCounts g ids counts
   pub gained_are : HasAddsFrom g ids gained
   pub log_is : new.log ≡ old.log ++ gained
   pub places_are : new.places ≡ set_places (emptied old.places bucket) (moves_of (emptied old.places bucket) bucket counts)
 
--- level and coreness of each vertex, each level as a draw in the bucket of its coreness, and one add for each place
+-- each level as a draw in the bucket of its coreness, each vertex in one draw, columns of these draws right, and one add for each place
 pub record IsPeeledOut (g : RawGraph) (w : Work) : Type 0 where
-  pub columns : AreCores g w.columns
+  pub columns : (cores : Cores) → AreCoredBy g w.draws cores → AreCores g cores
   pub levels : w.draws ≡ draws_before g (length w.draws)
   pub once : (v : ℕ) → v < vertices g → (t : ℕ) × IsDrawnAt g w.draws v t
   pub adds : HasOneAddEach g w.log
 
--- the loop's work, from buckets, columns and the log
-abbrev pub work_of : State → List ℕ → List ℕ → List Entry → Work
-work_of s core level log = record { places = s.places; draws = s.draws; columns = record { core = core; level = level }; log = log }
+-- the loop's work, from the buckets and the log
+abbrev pub work_of : State → List Entry → Work
+work_of s log = record { places = s.places; draws = s.draws; log = log }
 
 -- between two rounds: the work, and the root of a table with a word for each vertex, all of them 0
-pub record IsPeeling (g : RawGraph) (table : List ℕ) (home : Home) (core level : List ℕ) (seat : Seat) (s : State) : Type 0 where
-  pub under_way : IsUnderWay g (work_of s core level seat.log)
+pub record IsPeeling (g : RawGraph) (table : List ℕ) (home : Home) (seat : Seat) (s : State) : Type 0 where
+  pub under_way : IsUnderWay g (work_of s seat.log)
   pub order : s.order ≡ Increasing
   pub home_is : seat.home ≡ home
   pub of_table : IsSeatOf table seat

@@ -10,9 +10,9 @@ ghost use Rattle.jul_count.specs.Adds.{AreZero};
 ghost use Rattle.jul_core.specs.Peels.{AreDegrees, AreCores, IsDrawnAt, draws_before};
 ghost use Rattle.jul_core.specs.PeelPlaces.{HasOneAddEach};
 
-use crate::columns::degrees;
+use crate::columns::{columns_of, degrees};
 use crate::rounds::peel_rounds;
-use jul_base::{Column, Cores, Gate};
+use jul_base::{Cores, Gate, MAX_N};
 use jul_bucket::{Buckets, Order};
 use jul_pool::Team;
 use jul_rows::Rows;
@@ -63,26 +63,10 @@ pub fn peel<R: Threads + Sync, G: Gate>(
     ensures zero { IfOk result (λ r. AreZero r.seat) }
     ensures seat { IfOk result (λ r. IsAlone r.seat × (r.seat.home ≡ seat.home)) }
 {
-    let mut core = vec![in alloc; 0u64; rows.n() as usize]?;
-    let mut level = vec![in alloc; 0u64; rows.n() as usize]?;
-    let seat = peel_rounds(
-        rt,
-        alloc,
-        team,
-        rows,
-        counts,
-        seat,
-        core.as_mut_slice(),
-        level.as_mut_slice(),
-        buckets,
-    )?;
-    Ok(PeelOut {
-        cores: Cores {
-            core: Column::from_vec(core),
-            level: Column::from_vec(level),
-        },
-        seat,
-    })
+    prove!(rows.n() <= MAX_N);
+    let seat = peel_rounds(rt, alloc, team, rows, counts, seat, buckets)?;
+    let cores = columns_of(alloc, rows, buckets.drawn())?;
+    Ok(PeelOut { cores, seat })
 }
 
 /// The same with a table and buckets of its own, of which so many are open.

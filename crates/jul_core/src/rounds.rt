@@ -5,7 +5,6 @@ ghost use Rattle.jul_base.specs.Symmetry.{IsSymmetric};
 ghost use Rattle.jul_bucket.specs.Places.{AllNone};
 ghost use Rattle.jul_core.specs.PeelWork.{IsPeeling, CanRound, HasRound};
 
-use crate::columns::write_at;
 use crate::moving::moves_down;
 use jul_base::{Gate, MAX_N};
 use jul_bucket::Buckets;
@@ -17,8 +16,7 @@ use jul_words::{CountSeat, CountWords};
 use std::alloc::{AllocError, Global};
 use std::thread::Threads;
 
-/// Draws bucket after bucket till no vertex is in a bucket. The vertices of draw number t get level t, and the bucket as
-/// their coreness.
+/// Draws bucket after bucket till no vertex is in a bucket. Draw number t is level t.
 pub(crate) fn peel_rounds<R: Threads + Sync, G: Gate>(
     rt: &R,
     alloc: Global,
@@ -26,25 +24,19 @@ pub(crate) fn peel_rounds<R: Threads + Sync, G: Gate>(
     rows: &Rows,
     counts: &CountWords,
     mut seat: CountSeat,
-    core: &mut [u64],
-    level: &mut [u64],
     buckets: &mut Buckets,
 ) -> Result<CountSeat, AllocError>
     requires symmetric { IsSymmetric rows.now }
-    requires peeling { IsPeeling rows.now counts.now seat.home core.old level.old seat buckets.old }
+    requires peeling { IsPeeling rows.now counts.now seat.home seat buckets.old }
 
-    ensures peeling { IfOk result (λ r.
-        IsPeeling rows.now counts.now seat.home core.new level.new r buckets.new) }
+    ensures peeling { IfOk result (λ r. IsPeeling rows.now counts.now seat.home r buckets.new) }
     ensures none_left { IfOk result (λ _. AllNone buckets.new.places) }
 {
     prove!(rows.n() <= MAX_N);
     'rounds: loop {
-        let round = buckets.drawn().len() as u64;
         let Some((bucket, ids)) = buckets.next_bucket()? else {
             return Ok(seat);
         };
-        write_at(ids.as_slice(), round, level);
-        write_at(ids.as_slice(), bucket, core);
         seat = lower_reached(rt, alloc, team, rows, ids, bucket, counts, seat, buckets)?;
     }
 }
@@ -113,7 +105,7 @@ fn lower_reached<R: Threads + Sync, G: Gate>(
 {
     let n = rows.n();
     let work = work_to_share(team.workers, rows, drawn.as_slice());
-    let crew = team.for_work(work);
+    let crew = team.for_members(drawn.len(), work);
     let from = VertexSubset::from_increasing(alloc, n, drawn);
     let (list, seat) = edge_map_count(rt, alloc, &crew, rows, &from, counts, seat)?;
     let moves = moves_down(rt, alloc, team, list.as_slice(), bucket, buckets)?;
