@@ -62,7 +62,7 @@ pub(crate) fn offer_all<R: Threads + Sync, G: Gate>(
     prove!(members.n() == packs.n);
     let f = Offer { packs, base, words };
     let hand = MinHand { words, seat };
-    let crew = team.for_work(work / STEPS_FOR_A_SHARE);
+    let crew = team.for_members(members.len() as usize, work / STEPS_FOR_A_SHARE);
     let (_, hand) = vertex_map(rt, alloc, &crew, members, &f, hand)?;
     Ok(hand.seat)
 }
