@@ -14,95 +14,20 @@ use std::test::Fail;
 use std::thread;
 use std::thread::Threads;
 
-/// A task on a graph file, perhaps with a witness file, and the whole text that it writes.
-#[derive(Clone, Copy)]
-struct Row<'a> {
-    words: &'a [&'a str],
-    graph: &'a str,
-    witness: &'a str,
-    text: &'a str,
-    /// So many calls of the shelf read its files.
-    calls: u64,
-}
-
-const ROWS: [Row<'static>; 11] = [
-    Row {
-        words: &["kcore", "g", "--workers=1"],
-        graph: TRIANGLE,
-        witness: "",
-        text: TRIANGLE_CORES,
-        calls: 11,
-    },
-    Row {
-        words: &["kcore", "g", "--workers=2"],
-        graph: TRIANGLE,
-        witness: "",
-        text: TRIANGLE_CORES,
-        calls: 11,
-    },
-    Row {
-        words: &["kcore", "g", "--workers=7"],
-        graph: TRIANGLE,
-        witness: "",
-        text: TRIANGLE_CORES,
-        calls: 11,
-    },
-    Row {
-        words: &["wbfs", "g", "--workers=1"],
-        graph: TWO_WAYS,
-        witness: "",
-        text: TWO_WAYS_TREE,
-        calls: 12,
-    },
-    Row {
-        words: &["wbfs", "g", "--workers=2"],
-        graph: TWO_WAYS,
-        witness: "",
-        text: TWO_WAYS_TREE,
-        calls: 12,
-    },
-    Row {
-        words: &["wbfs", "g", "--workers=7"],
-        graph: TWO_WAYS,
-        witness: "",
-        text: TWO_WAYS_TREE,
-        calls: 12,
-    },
-    Row {
-        words: &["cover", "g", "--workers=1"],
-        graph: TWO_SETS,
-        witness: "",
-        text: TWO_SETS_COVER,
-        calls: 10,
-    },
-    Row {
-        words: &["cover", "g", "--workers=2"],
-        graph: TWO_SETS,
-        witness: "",
-        text: TWO_SETS_COVER,
-        calls: 10,
-    },
-    Row {
-        words: &["cover", "g", "--workers=7"],
-        graph: TWO_SETS,
-        witness: "",
-        text: TWO_SETS_COVER,
-        calls: 10,
-    },
-    Row {
-        words: &["check", "g", "w"],
-        graph: TRIANGLE,
-        witness: TRIANGLE_CORES,
-        text: "yes\n",
-        calls: 19,
-    },
-    Row {
-        words: &["upgrade", "g", "w"],
-        graph: TRIANGLE,
-        witness: TRIANGLE_CORES,
-        text: TRIANGLE_CORES,
-        calls: 19,
-    },
+/// Tasks: the words, the graph file and the witness file, the whole text that is written, and how many calls of the shelf
+/// read the files.
+const ROWS: [(&str, &str, &str, &str, u64); 11] = [
+    ("kcore g --workers=1", TRIANGLE, "", TRIANGLE_CORES, 11),
+    ("kcore g --workers=2", TRIANGLE, "", TRIANGLE_CORES, 11),
+    ("kcore g --workers=7", TRIANGLE, "", TRIANGLE_CORES, 11),
+    ("wbfs g --workers=1", TWO_WAYS, "", TWO_WAYS_TREE, 12),
+    ("wbfs g --workers=2", TWO_WAYS, "", TWO_WAYS_TREE, 12),
+    ("wbfs g --workers=7", TWO_WAYS, "", TWO_WAYS_TREE, 12),
+    ("cover g --workers=1", TWO_SETS, "", TWO_SETS_COVER, 10),
+    ("cover g --workers=2", TWO_SETS, "", TWO_SETS_COVER, 10),
+    ("cover g --workers=7", TWO_SETS, "", TWO_SETS_COVER, 10),
+    ("check g w", TRIANGLE, TRIANGLE_CORES, "yes\n", 19),
+    ("upgrade g w", TRIANGLE, TRIANGLE_CORES, TRIANGLE_CORES, 19),
 ];
 
 /// More calls than any of the rows makes.
@@ -117,18 +42,19 @@ fn calls_of(text: &str) -> u64 {
 fn expect_read_faults<R: Threads + Sync + Abort>(
     rt: &R,
     alloc: Global,
-    row: &Row<'_>,
+    mut trial: Trial<'_, '_, '_>,
+    text: &str,
+    calls: u64,
 ) -> Result<(), AllocError> {
-    let mut trial = trial_of(row.words, row.graph, row.witness);
     for call in 1..MANY_CALLS {
         trial.read_fails = call;
         let outcome = outcome_of(rt, alloc, &trial)?;
         if outcome.status == Status::Done {
-            assert_eq!(rt; outcome.out.as_slice(), row.text.as_bytes());
-            assert_eq!(rt; call - 1, row.calls, "{call}");
+            assert_eq!(rt; outcome.out.as_slice(), text.as_bytes());
+            assert_eq!(rt; call - 1, calls, "{call}");
             return Ok(());
         }
-        let (file, line) = if call <= calls_of(row.graph) {
+        let (file, line) = if call <= calls_of(trial.graph) {
             (Which::Graph, "read fault: graph\n")
         } else {
             (Which::Witness, "read fault: witness\n")
@@ -143,8 +69,9 @@ fn expect_read_faults<R: Threads + Sync + Abort>(
 
 #[test]
 fn each_failing_read_is_told(rt: HostRuntime) -> Result<(), Fail> {
-    for row in ROWS {
-        expect_read_faults(&rt, rt.alloc(), &row)?;
+    for (words, graph, witness, text, calls) in ROWS {
+        let trial = trial_of(words, graph, witness);
+        expect_read_faults(&rt, rt.alloc(), trial, text, calls)?;
     }
     Ok(())
 }
@@ -153,22 +80,22 @@ fn each_failing_read_is_told(rt: HostRuntime) -> Result<(), Fail> {
 fn expect_write_faults<R: Threads + Sync + Abort>(
     rt: &R,
     alloc: Global,
-    row: &Row<'_>,
+    mut trial: Trial<'_, '_, '_>,
+    text: &str,
 ) -> Result<(), AllocError> {
-    let mut trial = trial_of(row.words, row.graph, row.witness);
     trial.write_most = 3;
     for call in 1..MANY_CALLS {
         trial.write_fails = call;
         let outcome = outcome_of(rt, alloc, &trial)?;
         let out = outcome.out.as_slice();
         if outcome.status == Status::Done {
-            assert_eq!(rt; out, row.text.as_bytes());
+            assert_eq!(rt; out, text.as_bytes());
             return Ok(());
         }
         assert_eq!(rt; outcome.status, Status::WriteFault, "{call}");
         assert_eq!(rt; out.len() as u64, 3 * (call - 1), "{call}");
         assert!(rt;
-            out.len() < row.text.len() && row.text.as_bytes().starts_with(out),
+            out.len() < text.len() && text.as_bytes().starts_with(out),
             "{call}"
         );
         assert_eq!(rt;
@@ -183,8 +110,9 @@ fn expect_write_faults<R: Threads + Sync + Abort>(
 
 #[test]
 fn each_failing_write_is_told(rt: HostRuntime) -> Result<(), Fail> {
-    for row in ROWS {
-        expect_write_faults(&rt, rt.alloc(), &row)?;
+    for (words, graph, witness, text, _) in ROWS {
+        let trial = trial_of(words, graph, witness);
+        expect_write_faults(&rt, rt.alloc(), trial, text)?;
     }
     Ok(())
 }
@@ -193,8 +121,8 @@ fn each_failing_write_is_told(rt: HostRuntime) -> Result<(), Fail> {
 fn expect_failing_objects<'w, R: Threads + Sync + Abort>(
     rt: &R,
     alloc: Global,
-    here: &'w [&'w str],
-    elsewhere: &'w [&'w str],
+    here: &'w str,
+    elsewhere: &'w str,
 ) -> Result<(), AllocError> {
     let cores = trial_of(here, TRIANGLE, "");
     let missing = trial_of(elsewhere, TRIANGLE, "");
@@ -232,18 +160,9 @@ fn expect_failing_objects<'w, R: Threads + Sync + Abort>(
 #[test]
 fn other_failing_objects_are_told(rt: HostRuntime) -> Result<(), Fail> {
     for (here, elsewhere) in [
-        (
-            ["kcore", "g", "--workers=1"].as_slice(),
-            ["kcore", "x", "--workers=1"].as_slice(),
-        ),
-        (
-            ["kcore", "g", "--workers=2"].as_slice(),
-            ["kcore", "x", "--workers=2"].as_slice(),
-        ),
-        (
-            ["kcore", "g", "--workers=7"].as_slice(),
-            ["kcore", "x", "--workers=7"].as_slice(),
-        ),
+        ("kcore g --workers=1", "kcore x --workers=1"),
+        ("kcore g --workers=2", "kcore x --workers=2"),
+        ("kcore g --workers=7", "kcore x --workers=7"),
     ] {
         expect_failing_objects(&rt, rt.alloc(), here, elsewhere)?;
     }
@@ -264,10 +183,10 @@ fn expect_truncated<R: Threads + Sync + Abort>(
 }
 
 /// Ends the test where one of the cuts of a text, with a space between each two tokens, isn't refused.
-fn expect_cuts<'w, R: Threads + Sync + Abort>(
+fn expect_cuts<R: Threads + Sync + Abort>(
     rt: &R,
     alloc: Global,
-    words: &'w [&'w str],
+    words: &str,
     file: Which,
     text: &str,
 ) -> Result<(), AllocError> {
@@ -292,54 +211,25 @@ fn expect_cuts<'w, R: Threads + Sync + Abort>(
     Ok(())
 }
 
+/// Words, and a file of theirs that is cut.
+const CUT: [(&str, Which, &str); 12] = [
+    ("kcore g --workers=1", Which::Graph, TRIANGLE),
+    ("kcore g --workers=2", Which::Graph, TRIANGLE),
+    ("kcore g --workers=7", Which::Graph, TRIANGLE),
+    ("wbfs g --workers=1", Which::Graph, TWO_WAYS),
+    ("wbfs g --workers=2", Which::Graph, TWO_WAYS),
+    ("wbfs g --workers=7", Which::Graph, TWO_WAYS),
+    ("cover g --workers=1", Which::Graph, FAR),
+    ("cover g --workers=2", Which::Graph, FAR),
+    ("cover g --workers=7", Which::Graph, FAR),
+    ("check g w", Which::Graph, TRIANGLE),
+    ("check g w", Which::Witness, TRIANGLE_CORES),
+    ("upgrade g w", Which::Witness, LOWERED_FROM_TWO),
+];
+
 #[test]
 fn each_cut_of_a_file_is_told(rt: HostRuntime) -> Result<(), Fail> {
-    for (words, file, text) in [
-        (
-            ["kcore", "g", "--workers=1"].as_slice(),
-            Which::Graph,
-            TRIANGLE,
-        ),
-        (
-            ["kcore", "g", "--workers=2"].as_slice(),
-            Which::Graph,
-            TRIANGLE,
-        ),
-        (
-            ["kcore", "g", "--workers=7"].as_slice(),
-            Which::Graph,
-            TRIANGLE,
-        ),
-        (
-            ["wbfs", "g", "--workers=1"].as_slice(),
-            Which::Graph,
-            TWO_WAYS,
-        ),
-        (
-            ["wbfs", "g", "--workers=2"].as_slice(),
-            Which::Graph,
-            TWO_WAYS,
-        ),
-        (
-            ["wbfs", "g", "--workers=7"].as_slice(),
-            Which::Graph,
-            TWO_WAYS,
-        ),
-        (["cover", "g", "--workers=1"].as_slice(), Which::Graph, FAR),
-        (["cover", "g", "--workers=2"].as_slice(), Which::Graph, FAR),
-        (["cover", "g", "--workers=7"].as_slice(), Which::Graph, FAR),
-        (["check", "g", "w"].as_slice(), Which::Graph, TRIANGLE),
-        (
-            ["check", "g", "w"].as_slice(),
-            Which::Witness,
-            TRIANGLE_CORES,
-        ),
-        (
-            ["upgrade", "g", "w"].as_slice(),
-            Which::Witness,
-            LOWERED_FROM_TWO,
-        ),
-    ] {
+    for (words, file, text) in CUT {
         expect_cuts(&rt, rt.alloc(), words, file, text)?;
     }
     Ok(())
@@ -372,54 +262,60 @@ impl Gate for HoldGate {
     }
 }
 
-/// Ends the test where workers below a number that are held change the text of a task.
+/// Tasks: the words, the graph file and the whole text that is written. The rounds of the files are so small that worker 0
+/// runs them alone, whatever the words say; those of the demos aren't.
+const HELD: [(&str, &str, &str); 6] = [
+    (
+        "delta g --delta=10 --chunk=1",
+        LOWERED_TWICE,
+        LOWERED_TWICE_TREE,
+    ),
+    ("kcore g --chunk=1", TWO_TRIANGLES, TWO_TRIANGLES_CORES),
+    ("cover g --chunk=1", OVERLAPPING, OVERLAPPING_COVER),
+    (
+        "demo delta --n=20000 --pairs=60000 --seed=7 --delta=10",
+        "",
+        "delta n 20000 m 120000 reached 19956 max 329\n",
+    ),
+    (
+        "demo kcore --n=20000 --pairs=60000 --seed=7",
+        "",
+        "kcore n 20000 m 120000 max 4 top 15774\n",
+    ),
+    (
+        "demo cover --n=20000 --pairs=60000 --seed=7",
+        "",
+        "cover n 20000 m 120000 chosen 5097 covered 19956\n",
+    ),
+];
+
+/// Ends the test where the text of a task changes because those of so many workers that are below a number are held.
 fn expect_unchanged<R: Threads + Sync + Abort>(
     rt: &R,
     alloc: Global,
-    trial: &Trial<'_, '_, '_>,
+    task: (&str, &str, &str),
+    workers: u32,
     held: u32,
-    text: &str,
 ) -> Result<(), AllocError> {
+    let (words, graph, text) = task;
+    let words = format!(in alloc; "{words} --workers={workers}")?;
     let gate = HoldGate {
         held,
         turns: AtomicU64::new(0),
     };
-    let outcome = outcome_with(rt, alloc, trial, &gate)?;
+    let outcome = outcome_with(rt, alloc, &trial_of(words.as_str(), graph, ""), &gate)?;
     assert_eq!(rt; outcome.status, Status::Done, "{text}");
     assert_eq!(rt; outcome.out.as_slice(), text.as_bytes(), "{held}");
     Ok(())
 }
 
-// Worker 0, and every worker but the last. The rounds of the files are so small that worker 0 runs them alone,
-// whatever the words say; those of the demos aren't.
+// Worker 0, and every worker but the last.
 #[test]
 fn held_workers_change_nothing(rt: HostRuntime) -> Result<(), Fail> {
-    let alloc = rt.alloc();
-    let (n, pairs, seed) = ("--n=20000", "--pairs=60000", "--seed=7");
-    for (workers, held) in [
-        ("--workers=1", 1),
-        ("--workers=2", 1),
-        ("--workers=7", 1),
-        ("--workers=7", 6),
-    ] {
-        let words = ["delta", "g", "--delta=10", "--chunk=1", workers];
-        let trial = trial_of(&words, LOWERED_TWICE, "");
-        expect_unchanged(&rt, alloc, &trial, held, LOWERED_TWICE_TREE)?;
-        let words = ["kcore", "g", "--chunk=1", workers];
-        let trial = trial_of(&words, TWO_TRIANGLES, "");
-        expect_unchanged(&rt, alloc, &trial, held, TWO_TRIANGLES_CORES)?;
-        let words = ["cover", "g", "--chunk=1", workers];
-        let trial = trial_of(&words, OVERLAPPING, "");
-        expect_unchanged(&rt, alloc, &trial, held, OVERLAPPING_COVER)?;
-        let words = ["demo", "delta", n, pairs, seed, "--delta=10", workers];
-        let line = "delta n 20000 m 120000 reached 19956 max 329\n";
-        expect_unchanged(&rt, alloc, &trial_of(&words, "", ""), held, line)?;
-        let words = ["demo", "kcore", n, pairs, seed, workers];
-        let line = "kcore n 20000 m 120000 max 4 top 15774\n";
-        expect_unchanged(&rt, alloc, &trial_of(&words, "", ""), held, line)?;
-        let words = ["demo", "cover", n, pairs, seed, workers];
-        let line = "cover n 20000 m 120000 chosen 5097 covered 19956\n";
-        expect_unchanged(&rt, alloc, &trial_of(&words, "", ""), held, line)?;
+    for (workers, held) in [(1, 1), (2, 1), (7, 1), (7, 6)] {
+        for task in HELD {
+            expect_unchanged(&rt, rt.alloc(), task, workers, held)?;
+        }
     }
     Ok(())
 }
@@ -431,7 +327,7 @@ fn a_weight_may_have_many_zeros(rt: HostRuntime) -> Result<(), Fail> {
         text.push_str("0000000000")?;
     }
     text.push_str("7")?;
-    let trial = trial_of(&["wbfs", "g", "--bare"], text.as_str(), "");
+    let trial = trial_of("wbfs g --bare", text.as_str(), "");
     expect_answer(&rt, rt.alloc(), &trial, 0, "0\n7\n", "")?;
     Ok(())
 }

@@ -50,8 +50,8 @@ pub const READ_MOST: usize = 5;
 /// A run over a shelf of a graph `g` and a witness `w`, and over objects that fail at the calls named, 0 for none.
 #[derive(Clone, Copy)]
 pub struct Trial<'w, 'g, 't> {
-    /// The words of the command line.
-    pub words: &'w [&'w str],
+    /// The words of the command line, with a space between each two.
+    pub words: &'w str,
     /// The text of the file `g`.
     pub graph: &'g str,
     /// The text of the file `w`.
@@ -80,11 +80,7 @@ pub struct Outcome {
 }
 
 /// A run on a graph file and a witness file in which nothing fails.
-pub fn trial_of<'w, 'g, 't>(
-    words: &'w [&'w str],
-    graph: &'g str,
-    witness: &'t str,
-) -> Trial<'w, 'g, 't> {
+pub fn trial_of<'w, 'g, 't>(words: &'w str, graph: &'g str, witness: &'t str) -> Trial<'w, 'g, 't> {
     Trial {
         words,
         graph,
@@ -123,7 +119,7 @@ pub fn outcome_with<R: Threads + Sync, G: Gate>(
         Vec::from_slice(alloc, trial.witness.as_bytes())?,
     ))?;
     let mut words = Vec::new(alloc);
-    for word in trial.words {
+    for word in trial.words.split_whitespace() {
         words.push(String::from_str(alloc, word)?)?;
     }
     let fails = Vec::from_slice(alloc, &[trial.read_fails])?;

@@ -9,39 +9,26 @@ ghost use Rattle.jul_core.specs.Peels.{AreDegrees};
 use crate::columns::degrees;
 use crate::symmetry::are_windows_mirrored;
 use crate::{cores_of, is_found_symmetric, peel};
-use jul_base::{Gate, Ids, MAX_N, OpenGate, RawGraph};
+use jul_base::{CountGate, Gate, MAX_N, OpenGate};
 use jul_bucket::{Buckets, Order};
 use jul_pool::Team;
 use jul_rows::Rows;
 use jul_words::{CountSeat, CountWords};
 use std::alloc::{AllocError, Global};
 use std::process::Abort;
-use std::sync::atomic::{AtomicU64, Ordering};
 use std::test::Fail;
 use std::thread::Threads;
 
 /// The rows of a graph without weights. Lists that make no graph end the test.
-fn graph_of(
-    rt: &impl Abort,
-    alloc: Global,
-    offsets: &[u32],
-    targets: &[u32],
-) -> Result<Rows, Fail> {
-    let graph = RawGraph {
-        weighted: false,
-        offsets: Ids::from_vec(Vec::from_slice(alloc, offsets)?),
-        targets: Ids::from_vec(Vec::from_slice(alloc, targets)?),
-        weights: Ids::from_vec(Vec::new(alloc)),
-    };
-    assert!(rt; graph.is_lawful());
-    Ok(Rows::of(graph))
+fn graph_of(alloc: Global, offsets: &[u32], targets: &[u32]) -> Result<Rows, Fail> {
+    Ok(Rows::of_lists(alloc, offsets, targets, &[])?.ok_or("no lawful graph")?)
 }
 
 /// The same where the graph is to be symmetric, which it must be.
 fn rows_of(rt: &impl Abort, alloc: Global, offsets: &[u32], targets: &[u32]) -> Result<Rows, Fail>
     ensures { IfOk result (λ rows. IsSymmetric rows) }
 {
-    let rows = graph_of(rt, alloc, offsets, targets)?;
+    let rows = graph_of(alloc, offsets, targets)?;
     assert!(rt; rows.first_asymmetry()?.is_none());
     Ok(rows)
 }
@@ -205,14 +192,12 @@ fn rows_in_any_order_are_found_symmetric_in_windows(rt: HostRuntime) -> Result<(
     // Two triangles and an edge between 2 and 3.
     let offsets = [0u32, 2, 4, 7, 10, 12];
     let symmetric = graph_of(
-        &rt,
         rt.alloc(),
         offsets.as_slice(),
         &[2, 1, 2, 0, 3, 1, 0, 5, 2, 4, 3, 5, 4, 3],
     )?;
     // The row of 3 has 4 twice and lacks 5.
     let asymmetric = graph_of(
-        &rt,
         rt.alloc(),
         offsets.as_slice(),
         &[2, 1, 2, 0, 3, 1, 0, 4, 2, 4, 3, 5, 4, 3],
@@ -230,31 +215,17 @@ fn rows_in_any_order_are_found_symmetric_in_windows(rt: HostRuntime) -> Result<(
     Ok(())
 }
 
-/// Counts its passes.
-#[derive(Drop)]
-struct CountGate {
-    passes: AtomicU64,
-}
-
-impl Gate for CountGate {
-    fn pass(&self, _worker: u32, _chunk: u32) {
-        self.passes.fetch_add(1, Ordering::SeqCst);
-    }
-}
-
 #[test]
 fn each_chunk_of_each_round_passes_the_gate(rt: HostRuntime) -> Result<(), Fail> {
     // 4 and then 2 vertices are drawn, and both times all 6 are reached.
     let rows = triangles(&rt, rt.alloc())?;
-    let gate = CountGate {
-        passes: AtomicU64::new(0),
-    };
+    let gate = CountGate::new();
     let team = Team {
         workers: 2,
         chunk: 1,
         gate: &gate,
     };
     cores_of(&rt, rt.alloc(), &team, &rows, 2)?;
-    assert_eq!(rt; gate.passes.swap(0, Ordering::SeqCst), 18);
+    assert_eq!(rt; gate.take(), 18);
     Ok(())
 }

@@ -4,33 +4,24 @@ ghost use Rattle.jul_base.specs.Graph.{vertices};
 ghost use Rattle.jul_count.specs.Adds.{CanCount};
 
 use crate::{edge_map_count, pack};
-use jul_base::{Gate, Ids, OpenGate, RawGraph};
+use jul_base::{CountGate, Gate, Ids, OpenGate};
 use jul_pool::Team;
 use jul_rows::Rows;
 use jul_subset::{VertexSubset, VertexTest};
 use jul_words::{CountSeat, CountWords};
 use std::alloc::{AllocError, Global};
 use std::process::Abort;
-use std::sync::atomic::{AtomicU64, Ordering};
 use std::test::Fail;
 use std::thread::Threads;
 
 /// The rows of a graph without weights. Lists that aren't lawful end the test.
-fn rows_of(rt: &impl Abort, alloc: Global, offsets: &[u32], targets: &[u32]) -> Result<Rows, Fail> {
-    let graph = RawGraph {
-        weighted: false,
-        offsets: Ids::from_vec(Vec::from_slice(alloc, offsets)?),
-        targets: Ids::from_vec(Vec::from_slice(alloc, targets)?),
-        weights: Ids::from_vec(Vec::new(alloc)),
-    };
-    assert!(rt; graph.is_lawful());
-    Ok(Rows::of(graph))
+fn rows_of(alloc: Global, offsets: &[u32], targets: &[u32]) -> Result<Rows, Fail> {
+    Ok(Rows::of_lists(alloc, offsets, targets, &[])?.ok_or("no lawful graph")?)
 }
 
 /// Two triangles, 0 1 2 and 3 4 5, and an edge between 2 and 3.
-fn triangles(rt: &impl Abort, alloc: Global) -> Result<Rows, Fail> {
+fn triangles(alloc: Global) -> Result<Rows, Fail> {
     rows_of(
-        rt,
         alloc,
         &[0, 2, 4, 7, 10, 12],
         &[1, 2, 0, 2, 0, 1, 3, 2, 4, 5, 3, 5, 3, 4],
@@ -68,7 +59,7 @@ fn counted<R: Threads + Sync + Abort, G: Gate>(
 
 #[test]
 fn repeated_places_are_each_counted(rt: HostRuntime) -> Result<(), Fail> {
-    let rows = rows_of(&rt, rt.alloc(), &[0, 2], &[1, 1, 0, 0])?;
+    let rows = rows_of(rt.alloc(), &[0, 2], &[1, 1, 0, 0])?;
     let from = VertexSubset::from_list(rt.alloc(), rows.n(), &[0])?;
     for workers in [1u32, 2] {
         let list = counted(&rt, rt.alloc(), &rows, &from, workers, &OpenGate)?;
@@ -80,7 +71,7 @@ fn repeated_places_are_each_counted(rt: HostRuntime) -> Result<(), Fail> {
 #[test]
 fn a_vertex_that_several_members_lead_to_stands_once(rt: HostRuntime) -> Result<(), Fail> {
     // Vertex 2 is a neighbour of all three members, each of the others of one of them.
-    let rows = triangles(&rt, rt.alloc())?;
+    let rows = triangles(rt.alloc())?;
     let mut from = VertexSubset::from_list(rt.alloc(), rows.n(), &[0, 1, 3])?;
     let expected = [(0, 1), (1, 1), (2, 3), (4, 1), (5, 1)];
     for workers in [1u32, 2, 7, 64] {
@@ -95,34 +86,20 @@ fn a_vertex_that_several_members_lead_to_stands_once(rt: HostRuntime) -> Result<
 
 #[test]
 fn no_member_leads_nowhere(rt: HostRuntime) -> Result<(), Fail> {
-    let rows = triangles(&rt, rt.alloc())?;
+    let rows = triangles(rt.alloc())?;
     let none = VertexSubset::from_list(rt.alloc(), rows.n(), &[])?;
     let list = counted(&rt, rt.alloc(), &rows, &none, 2, &OpenGate)?;
     assert_eq!(rt; list.len(), 0);
     Ok(())
 }
 
-/// Counts its passes.
-#[derive(Drop)]
-struct CountGate {
-    passes: AtomicU64,
-}
-
-impl Gate for CountGate {
-    fn pass(&self, _worker: u32, _chunk: u32) {
-        self.passes.fetch_add(1, Ordering::SeqCst);
-    }
-}
-
 #[test]
 fn each_chunk_of_members_passes_the_gate(rt: HostRuntime) -> Result<(), Fail> {
-    let rows = triangles(&rt, rt.alloc())?;
+    let rows = triangles(rt.alloc())?;
     let from = VertexSubset::from_list(rt.alloc(), rows.n(), &[0, 2, 3, 5])?;
-    let gate = CountGate {
-        passes: AtomicU64::new(0),
-    };
+    let gate = CountGate::new();
     counted(&rt, rt.alloc(), &rows, &from, 2, &gate)?;
-    assert_eq!(rt; gate.passes.swap(0, Ordering::SeqCst), 4);
+    assert_eq!(rt; gate.take(), 4);
     Ok(())
 }
 
@@ -158,7 +135,7 @@ fn packs_are(packs: &[(u32, Ids)], expected: &[(u32, &[u32])]) -> bool {
 #[test]
 fn sets_are_packed_in_the_order_of_the_list(rt: HostRuntime) -> Result<(), Fail> {
     // Set 0 is 2 and 3, set 1 is 3 and 4.
-    let rows = rows_of(&rt, rt.alloc(), &[0, 2, 4, 4, 4], &[2, 3, 3, 4])?;
+    let rows = rows_of(rt.alloc(), &[0, 2, 4, 4, 4], &[2, 3, 3, 4])?;
     let sets = rows.elements()?;
     assert_eq!(rt; sets.n(), 5);
     let expected = [(1u32, [4u32].as_slice()), (0, [2].as_slice())];

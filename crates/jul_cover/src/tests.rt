@@ -7,27 +7,19 @@ ghost use Rattle.jul_cover.specs.CoverMoves.{AreSizes};
 
 use crate::sizes::first_places;
 use crate::{cover, cover_of};
-use jul_base::{Cover, Gate, Ids, MAX_N, NONE, OpenGate, RawGraph};
+use jul_base::{CountGate, Cover, MAX_N, NONE, OpenGate};
 use jul_bucket::{Buckets, Order};
 use jul_pool::Team;
 use jul_rows::{Rows, SetRows};
 use jul_words::{MinSeat, MinWords, ZeroFloors};
 use std::alloc::{AllocError, Global};
 use std::process::Abort;
-use std::sync::atomic::{AtomicU64, Ordering};
 use std::test::Fail;
 use std::thread::Threads;
 
 /// The rows of a graph without weights. Lists that aren't lawful end the test.
-fn rows_of(rt: &impl Abort, alloc: Global, offsets: &[u32], targets: &[u32]) -> Result<Rows, Fail> {
-    let graph = RawGraph {
-        weighted: false,
-        offsets: Ids::from_vec(Vec::from_slice(alloc, offsets)?),
-        targets: Ids::from_vec(Vec::from_slice(alloc, targets)?),
-        weights: Ids::from_vec(Vec::new(alloc)),
-    };
-    assert!(rt; graph.is_lawful());
-    Ok(Rows::of(graph))
+fn rows_of(alloc: Global, offsets: &[u32], targets: &[u32]) -> Result<Rows, Fail> {
+    Ok(Rows::of_lists(alloc, offsets, targets, &[])?.ok_or("no lawful graph")?)
 }
 
 /// Ends the test where the cover hasn't these columns.
@@ -58,16 +50,15 @@ fn covers_as<R: Threads + Sync + Abort>(
 #[test]
 fn an_element_of_two_chosen_sets_goes_to_the_lesser(rt: HostRuntime) -> Result<(), Fail> {
     // Sets 0 and 1 have two elements each, and 3 is in both. Set 1 wins exactly half.
-    let rows = rows_of(&rt, rt.alloc(), &[0, 2, 4, 4, 4], &[2, 3, 3, 4])?;
+    let rows = rows_of(rt.alloc(), &[0, 2, 4, 4, 4], &[2, 3, 3, 4])?;
     let round = [0, 0, NONE, NONE, NONE];
     let by = [NONE, NONE, 0, 0, 1];
     covers_as(&rt, rt.alloc(), &rows, round.as_slice(), by.as_slice())
 }
 
 /// Sets 0 and 1 of four elements each, of which three are in both.
-fn two_large_sets(rt: &impl Abort, alloc: Global) -> Result<Rows, Fail> {
+fn two_large_sets(alloc: Global) -> Result<Rows, Fail> {
     rows_of(
-        rt,
         alloc,
         &[0, 4, 8, 8, 8, 8, 8, 8, 8],
         &[4, 5, 6, 7, 5, 6, 7, 8],
@@ -77,14 +68,14 @@ fn two_large_sets(rt: &impl Abort, alloc: Global) -> Result<Rows, Fail> {
 #[test]
 fn a_set_that_wins_too_few_waits(rt: HostRuntime) -> Result<(), Fail> {
     // Set 1 wins one of four elements in round 0.
-    let rows = two_large_sets(&rt, rt.alloc())?;
+    let rows = two_large_sets(rt.alloc())?;
     let round = [0, 1, NONE, NONE, NONE, NONE, NONE, NONE, NONE];
     let by = [NONE, NONE, NONE, NONE, 0, 0, 0, 0, 1];
     covers_as(&rt, rt.alloc(), &rows, round.as_slice(), by.as_slice())
 }
 
 /// Set s of s, s + 1, s + 2 and s + 3, for each s up to 60, and three empty sets.
-fn rows_of_a_chain(rt: &impl Abort, alloc: Global) -> Result<Rows, Fail> {
+fn rows_of_a_chain(alloc: Global) -> Result<Rows, Fail> {
     let mut offsets = Vec::new(alloc);
     let mut targets = Vec::new(alloc);
     for s in 0..64u32 {
@@ -93,13 +84,13 @@ fn rows_of_a_chain(rt: &impl Abort, alloc: Global) -> Result<Rows, Fail> {
             targets.extend_from_slice(&[s, s + 1, s + 2, s + 3])?;
         }
     }
-    rows_of(rt, alloc, offsets.as_slice(), targets.as_slice())
+    rows_of(alloc, offsets.as_slice(), targets.as_slice())
 }
 
 #[test]
 fn a_bucket_that_is_drawn_again_and_again(rt: HostRuntime) -> Result<(), Fail> {
     // A round chooses the first set that is whole: each other wins one element of four.
-    let rows = rows_of_a_chain(&rt, rt.alloc())?;
+    let rows = rows_of_a_chain(rt.alloc())?;
     let mut round = Vec::new(rt.alloc());
     let mut by = Vec::new(rt.alloc());
     for s in 0..64u64 {
@@ -111,27 +102,15 @@ fn a_bucket_that_is_drawn_again_and_again(rt: HostRuntime) -> Result<(), Fail> {
 
 #[test]
 fn without_elements_no_set_is_chosen(rt: HostRuntime) -> Result<(), Fail> {
-    let rows = rows_of(&rt, rt.alloc(), &[0, 0], &[])?;
+    let rows = rows_of(rt.alloc(), &[0, 0], &[])?;
     let none = [NONE, NONE];
     covers_as(&rt, rt.alloc(), &rows, none.as_slice(), none.as_slice())
 }
 
 #[test]
 fn a_vertex_may_cover_itself(rt: HostRuntime) -> Result<(), Fail> {
-    let rows = rows_of(&rt, rt.alloc(), &[0], &[0])?;
+    let rows = rows_of(rt.alloc(), &[0], &[0])?;
     covers_as(&rt, rt.alloc(), &rows, [0].as_slice(), [0].as_slice())
-}
-
-/// Counts its passes.
-#[derive(Drop)]
-struct CountGate {
-    passes: AtomicU64,
-}
-
-impl Gate for CountGate {
-    fn pass(&self, _worker: u32, _chunk: u32) {
-        self.passes.fetch_add(1, Ordering::SeqCst);
-    }
 }
 
 /// A table with a word for each vertex, all of them `NONE`.
@@ -156,10 +135,8 @@ fn buckets_for(alloc: Global, sets: &SetRows) -> Result<Buckets, AllocError>
 
 #[test]
 fn each_round_is_drawn_and_its_chunks_pass_the_gate(rt: HostRuntime) -> Result<(), Fail> {
-    let sets = two_large_sets(&rt, rt.alloc())?.elements()?;
-    let gate = CountGate {
-        passes: AtomicU64::new(0),
-    };
+    let sets = two_large_sets(rt.alloc())?.elements()?;
+    let gate = CountGate::new();
     let team = Team {
         workers: 2,
         chunk: 1,
@@ -181,6 +158,6 @@ fn each_round_is_drawn_and_its_chunks_pass_the_gate(rt: HostRuntime) -> Result<(
     )?;
     // Bucket 2 is drawn with both sets, then again with set 1, which has one element left, and then bucket 0.
     assert_eq!(rt; buckets.drawn().len(), 3);
-    assert!(rt; gate.passes.swap(0, Ordering::SeqCst) >= 3);
+    assert!(rt; gate.take() >= 3);
     Ok(())
 }

@@ -4,39 +4,22 @@ ghost use Rattle.jul_base.specs.Graph.{vertices};
 ghost use Rattle.jul_base.specs.InRows.{IsFlip};
 
 use crate::least_distances;
-use jul_base::{Column, Gate, Ids, NONE, OpenGate, RawGraph};
+use jul_base::{Column, CountGate, Gate, NONE, OpenGate};
 use jul_pool::Team;
 use jul_rows::Rows;
 use std::alloc::Global;
 use std::process::Abort;
-use std::sync::atomic::{AtomicU64, Ordering};
 use std::test::Fail;
 use std::thread::Threads;
 
-/// The rows of a graph with weights. Lists that aren't lawful end the test.
-fn rows_of(rt: &impl Abort, alloc: Global, lists: [&[u32]; 3]) -> Result<Rows, Fail> {
-    let [offsets, targets, weights] = lists;
-    let graph = RawGraph {
-        weighted: true,
-        offsets: Ids::from_vec(Vec::from_slice(alloc, offsets)?),
-        targets: Ids::from_vec(Vec::from_slice(alloc, targets)?),
-        weights: Ids::from_vec(Vec::from_slice(alloc, weights)?),
-    };
-    assert!(rt; graph.is_lawful());
-    Ok(Rows::of(graph))
+/// The rows of these lists. Lists that aren't lawful end the test.
+fn rows_of(alloc: Global, offsets: &[u32], targets: &[u32], weights: &[u32]) -> Result<Rows, Fail> {
+    Ok(Rows::of_lists(alloc, offsets, targets, weights)?.ok_or("no lawful graph")?)
 }
 
 /// From 0 to 1 (9) and 2 (1), from 1 to 3 (5), from 2 to 1 (6).
-fn diamond(rt: &impl Abort, alloc: Global) -> Result<Rows, Fail> {
-    rows_of(
-        rt,
-        alloc,
-        [
-            [0, 2, 3, 4].as_slice(),
-            [1, 2, 3, 1].as_slice(),
-            [9, 1, 5, 6].as_slice(),
-        ],
-    )
+fn diamond(alloc: Global) -> Result<Rows, Fail> {
+    rows_of(alloc, &[0, 2, 3, 4], &[1, 2, 3, 1], &[9, 1, 5, 6])
 }
 
 /// The distances with a gate, one vertex to a chunk and two buckets open. Sources that aren't vertices end the test.
@@ -71,7 +54,7 @@ fn from<R: Threads + Sync + Abort, G: Gate>(
 fn a_vertex_that_is_lowered_in_its_own_bucket_is_drawn_again(rt: HostRuntime) -> Result<(), Fail> {
     // With a delta of 10 vertex 1 gets 9, is drawn with vertex 2 from bucket 0, is lowered to 7 and is drawn from
     // bucket 0 again. With a delta of 1 it is moved from bucket 9 to bucket 7.
-    let rows = diamond(&rt, rt.alloc())?;
+    let rows = diamond(rt.alloc())?;
     for workers in [1u32, 2, 7] {
         for delta in [1u64, 10] {
             let dist = from(&rt, rt.alloc(), &rows, &[0], delta, workers, &OpenGate)?;
@@ -88,7 +71,7 @@ fn a_vertex_that_is_lowered_in_its_own_bucket_is_drawn_again(rt: HostRuntime) ->
 
 #[test]
 fn the_nearest_of_two_sources_counts(rt: HostRuntime) -> Result<(), Fail> {
-    let rows = diamond(&rt, rt.alloc())?;
+    let rows = diamond(rt.alloc())?;
     for workers in [1u32, 2, 7] {
         let dist = from(&rt, rt.alloc(), &rows, &[0, 2], 10, workers, &OpenGate)?;
         assert_eq!(rt;
@@ -103,12 +86,7 @@ fn the_nearest_of_two_sources_counts(rt: HostRuntime) -> Result<(), Fail> {
 #[test]
 fn a_way_round_may_be_shorter(rt: HostRuntime) -> Result<(), Fail> {
     // From 0 to 1 (5) and 2 (1), from 2 to 1 (2). Vertex 3 isn't reached.
-    let lists = [
-        [0, 2, 2, 3].as_slice(),
-        [1, 2, 1].as_slice(),
-        [5, 1, 2].as_slice(),
-    ];
-    let rows = rows_of(&rt, rt.alloc(), lists)?;
+    let rows = rows_of(rt.alloc(), &[0, 2, 2, 3], &[1, 2, 1], &[5, 1, 2])?;
     for workers in [1u32, 2, 7] {
         let dist = from(&rt, rt.alloc(), &rows, &[0], 1, workers, &OpenGate)?;
         assert_eq!(rt;
@@ -123,12 +101,7 @@ fn a_way_round_may_be_shorter(rt: HostRuntime) -> Result<(), Fail> {
 #[test]
 fn distances_exceed_32_bits(rt: HostRuntime) -> Result<(), Fail> {
     // From 0 to 1 and from 1 to 2, with the greatest weight.
-    let lists = [
-        [0, 1, 2].as_slice(),
-        [1, 2].as_slice(),
-        [4_294_967_295, 4_294_967_295].as_slice(),
-    ];
-    let rows = rows_of(&rt, rt.alloc(), lists)?;
+    let rows = rows_of(rt.alloc(), &[0, 1, 2], &[1, 2], &[u32::MAX, u32::MAX])?;
     for workers in [1u32, 2, 7] {
         let dist = from(&rt, rt.alloc(), &rows, &[0], 1, workers, &OpenGate)?;
         let expected = [0, 4_294_967_295, 8_589_934_590];
@@ -137,27 +110,13 @@ fn distances_exceed_32_bits(rt: HostRuntime) -> Result<(), Fail> {
     Ok(())
 }
 
-/// Counts its passes.
-#[derive(Drop)]
-struct CountGate {
-    passes: AtomicU64,
-}
-
-impl Gate for CountGate {
-    fn pass(&self, _worker: u32, _chunk: u32) {
-        self.passes.fetch_add(1, Ordering::SeqCst);
-    }
-}
-
 #[test]
 fn the_rounds_go_through_the_pool(rt: HostRuntime) -> Result<(), Fail> {
     // Vertex 0 is drawn, then 1 and 2, then 1 again, then 3: five vertices, each in a chunk of its own.
-    let rows = diamond(&rt, rt.alloc())?;
-    let gate = CountGate {
-        passes: AtomicU64::new(0),
-    };
+    let rows = diamond(rt.alloc())?;
+    let gate = CountGate::new();
     let dist = from(&rt, rt.alloc(), &rows, &[0], 10, 2, &gate)?;
     assert_eq!(rt; dist.as_slice(), [0, 7, 1, 12].as_slice());
-    assert!(rt; gate.passes.load(Ordering::SeqCst) >= 5);
+    assert!(rt; gate.take() >= 5);
     Ok(())
 }

@@ -1,28 +1,18 @@
 //! The calls on small graphs, with answers that were worked out by hand.
 
 use crate::{InRows, Rows, SetRows};
-use jul_base::{Ids, RawGraph};
 use std::alloc::Global;
-use std::process::Abort;
 use std::test::Fail;
 
-/// The rows of a graph, which has no weights of its own where the last list is empty. Lists that aren't
-/// lawful end the test.
-fn rows_of(rt: &impl Abort, alloc: Global, lists: [&[u32]; 3]) -> Result<Rows, Fail> {
-    let [offsets, targets, weights] = lists;
-    let graph = RawGraph {
-        weighted: !weights.is_empty(),
-        offsets: Ids::from_vec(Vec::from_slice(alloc, offsets)?),
-        targets: Ids::from_vec(Vec::from_slice(alloc, targets)?),
-        weights: Ids::from_vec(Vec::from_slice(alloc, weights)?),
-    };
-    assert!(rt; graph.is_lawful());
-    Ok(Rows::of(graph))
+/// The rows of the given lists, without weights. Lists that aren't lawful end the test.
+fn plain(alloc: Global, offsets: &[u32], targets: &[u32]) -> Result<Rows, Fail> {
+    Ok(Rows::of_lists(alloc, offsets, targets, &[])?.ok_or("no lawful graph")?)
 }
 
-/// The rows of the given lists, without weights.
-fn plain(rt: &impl Abort, alloc: Global, offsets: &[u32], targets: &[u32]) -> Result<Rows, Fail> {
-    rows_of(rt, alloc, [offsets, targets, &[]])
+/// The rows of four vertices and these targets, with weights.
+fn weighted(alloc: Global, targets: &[u32]) -> Result<Rows, Fail> {
+    let rows = Rows::of_lists(alloc, &[0, 2, 3, 4], targets, &[9, 1, 5, 6])?;
+    Ok(rows.ok_or("no lawful graph")?)
 }
 
 fn row_is(rows: &Rows, v: u32, first: u32, row: &[u32]) -> bool {
@@ -50,24 +40,16 @@ fn is_element(sets: &SetRows, v: u32) -> bool {
 
 #[test]
 fn rows_are_read_in_file_order(rt: HostRuntime) -> Result<(), Fail> {
-    let rows = rows_of(
-        &rt,
-        rt.alloc(),
-        [&[0, 2, 3, 4], &[2, 1, 3, 1], &[9, 1, 5, 6]],
-    )?;
+    let rows = weighted(rt.alloc(), &[2, 1, 3, 1])?;
     assert!(rt; row_is(&rows, 0, 0, &[2, 1]) && row_is(&rows, 3, 4, &[]));
     assert!(rt; weight_is(&rows, 3, 6));
-    assert!(rt; weight_is(&plain(&rt, rt.alloc(), &[0], &[0])?, 0, 1));
+    assert!(rt; weight_is(&plain(rt.alloc(), &[0], &[0])?, 0, 1));
     Ok(())
 }
 
 #[test]
 fn places_come_back_to_their_targets(rt: HostRuntime) -> Result<(), Fail> {
-    let rows = rows_of(
-        &rt,
-        rt.alloc(),
-        [&[0, 2, 3, 4], &[1, 2, 3, 1], &[9, 1, 5, 6]],
-    )?;
+    let rows = weighted(rt.alloc(), &[1, 2, 3, 1])?;
     let in_rows = rows.flip()?;
     assert!(rt; in_row_is(&in_rows, 1, &[0, 2], &[0, 3]));
     assert!(rt; in_row_is(&in_rows, 0, &[], &[]));
@@ -76,7 +58,7 @@ fn places_come_back_to_their_targets(rt: HostRuntime) -> Result<(), Fail> {
 
 #[test]
 fn repeats_and_self_edges_come_back_too(rt: HostRuntime) -> Result<(), Fail> {
-    let in_rows = plain(&rt, rt.alloc(), &[0, 3], &[1, 0, 1, 0, 0])?.flip()?;
+    let in_rows = plain(rt.alloc(), &[0, 3], &[1, 0, 1, 0, 0])?.flip()?;
     assert!(rt; in_row_is(&in_rows, 0, &[0, 1, 1], &[1, 3, 4]));
     assert!(rt; in_row_is(&in_rows, 1, &[0, 0], &[0, 2]));
     Ok(())
@@ -94,7 +76,7 @@ fn the_least_asymmetric_place_is_named(rt: HostRuntime) -> Result<(), Fail> {
         (&[0], &[0, 0], None),
     ];
     for (offsets, targets, wanted) in cases {
-        let rows = plain(&rt, rt.alloc(), offsets, targets)?;
+        let rows = plain(rt.alloc(), offsets, targets)?;
         assert_eq!(rt; rows.first_asymmetry()?, wanted);
         assert_eq!(rt; rows.first_asymmetry_by_tallies()?, wanted);
     }
@@ -123,10 +105,10 @@ fn all_windows_are_mirrored(rows: &Rows) -> Result<bool, Fail> {
 
 #[test]
 fn windows_are_found_mirrored(rt: HostRuntime) -> Result<(), Fail> {
-    let rows = plain(&rt, rt.alloc(), &[0, 2, 4, 7], &[1, 2, 0, 2, 0, 1, 3, 2])?;
+    let rows = plain(rt.alloc(), &[0, 2, 4, 7], &[1, 2, 0, 2, 0, 1, 3, 2])?;
     assert!(rt; all_windows_are_mirrored(&rows)?);
     // 3 leads to 1 twice, and there is one place back; 2 lacks a place back to 3.
-    let rows = plain(&rt, rt.alloc(), &[0, 1, 3, 3], &[1, 0, 3, 1, 1, 2])?;
+    let rows = plain(rt.alloc(), &[0, 1, 3, 3], &[1, 0, 3, 1, 1, 2])?;
     assert!(rt; window_is(&rows, 0, 3, true)? && window_is(&rows, 3, 4, false)?);
     assert!(rt; window_is(&rows, 0, 4, false)?);
     Ok(())
@@ -134,17 +116,17 @@ fn windows_are_found_mirrored(rt: HostRuntime) -> Result<(), Fail> {
 
 #[test]
 fn windows_of_rows_in_any_order_are_found_mirrored(rt: HostRuntime) -> Result<(), Fail> {
-    let rows = plain(&rt, rt.alloc(), &[0, 2, 4, 7], &[2, 1, 2, 0, 3, 0, 1, 2])?;
+    let rows = plain(rt.alloc(), &[0, 2, 4, 7], &[2, 1, 2, 0, 3, 0, 1, 2])?;
     assert!(rt; all_windows_are_mirrored(&rows)?);
     // The row of 2 has 1 twice and lacks 0.
-    let rows = plain(&rt, rt.alloc(), &[0, 2, 4, 7], &[2, 1, 2, 0, 3, 1, 1, 2])?;
+    let rows = plain(rt.alloc(), &[0, 2, 4, 7], &[2, 1, 2, 0, 3, 1, 1, 2])?;
     assert!(rt; window_is(&rows, 0, 2, true)? && window_is(&rows, 2, 4, false)?);
     Ok(())
 }
 
 #[test]
 fn repeats_are_one_element(rt: HostRuntime) -> Result<(), Fail> {
-    let sets = plain(&rt, rt.alloc(), &[0, 2], &[1, 1, 0, 0])?.elements()?;
+    let sets = plain(rt.alloc(), &[0, 2], &[1, 1, 0, 0])?.elements()?;
     assert!(rt; set_is(&sets, 0, &[1]) && set_is(&sets, 1, &[0]));
     assert!(rt; is_element(&sets, 0) && is_element(&sets, 1));
     Ok(())
@@ -152,9 +134,9 @@ fn repeats_are_one_element(rt: HostRuntime) -> Result<(), Fail> {
 
 #[test]
 fn sets_are_in_order(rt: HostRuntime) -> Result<(), Fail> {
-    let sets = plain(&rt, rt.alloc(), &[0, 2, 4, 4, 4], &[2, 3, 3, 4])?.elements()?;
+    let sets = plain(rt.alloc(), &[0, 2, 4, 4, 4], &[2, 3, 3, 4])?.elements()?;
     assert!(rt; set_is(&sets, 0, &[2, 3]) && !is_element(&sets, 0));
-    let mixed = plain(&rt, rt.alloc(), &[0, 3, 3, 3], &[3, 0, 3])?.elements()?;
+    let mixed = plain(rt.alloc(), &[0, 3, 3, 3], &[3, 0, 3])?.elements()?;
     assert!(rt; set_is(&mixed, 0, &[0, 3]) && is_element(&mixed, 0));
     Ok(())
 }

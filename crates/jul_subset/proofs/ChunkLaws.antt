@@ -1,5 +1,5 @@
 -- How the chunks of a list, and what was run at each chunk once, are put together.
-use Rattle.std.proofs.Common.{zero, suc, ◌≡◌, ℕ, ◌+◌, ◌*◌, ◌<◌, ◌↔◌, List, [], ◌∷◌, ◌++◌, length, map, drop, refl, ap, sym, ◌∙◌, subst, arith, All, Some, slice_get, ⊎_elim}
+use Rattle.std.proofs.Common.{zero, suc, ◌≡◌, ℕ, ◌+◌, ◌*◌, ◌<◌, ◌↔◌, List, [], ◌∷◌, ◌++◌, map, drop, refl, ap, sym, ◌∙◌, subst, arith, All, Some, slice_get, ⊎_elim}
 use Rattle.std.specs.Prelude.{sum_by, Contains}
 use Rattle.std.specs.List.{flat_map}
 use Rattle.std.proofs.lemmas.List.{take-append-drop, drop-drop}
@@ -10,7 +10,7 @@ use Rattle.jul_base.specs.Logs.{Log}
 use Rattle.jul_base.specs.Numbers.{below}
 use Rattle.jul_base.proofs.PartLaws.{below-more}
 use Rattle.jul_base.specs.Times.{times, EachOnceBelow}
-use Rattle.jul_pool.specs.Runs.{Run, IsRun, EachRunOnce}
+use Rattle.jul_pool.specs.Runs.{Run, EachRunOnce}
 pub use Rattle.jul_pool.proofs.GivenLaws.{given_at, slice_get_below}
 use Rattle.jul_base.proofs.TimesLaws.{times-append, times_here, times_other}
 use Rattle.jul_subset.specs.Chunks.{chunk_of}

@@ -2,9 +2,8 @@
 ghost use Rattle.std.specs.Prelude.{◌≡◌, ◌==◌, ◌%◌, [], true};
 
 use super::*;
-use jul_base::{Free, Gate, OpenGate};
+use jul_base::{CountGate, Free, OpenGate};
 use jul_pool::Team;
-use std::sync::atomic::{AtomicU64, Ordering};
 use std::test::Fail;
 
 /// Answers true at every vertex.
@@ -54,18 +53,6 @@ impl VertexTest for Only {
 
     fn keeps(&self, v: u32) -> bool {
         v == self.v
-    }
-}
-
-/// Counts its passes.
-#[derive(Drop)]
-struct CountGate {
-    passes: AtomicU64,
-}
-
-impl Gate for CountGate {
-    fn pass(&self, _worker: u32, _chunk: u32) {
-        self.passes.fetch_add(1, Ordering::SeqCst);
     }
 }
 
@@ -187,9 +174,7 @@ fn maps_and_filters_agree_for_every_team_and_form(rt: HostRuntime) -> Result<(),
 #[test]
 fn work_is_cut_into_chunks_of_members(rt: HostRuntime) -> Result<(), Fail> {
     for (chunk, passes) in [(1u32, 5u64), (2, 3), (5, 1), (65_536, 1)] {
-        let gate = CountGate {
-            passes: AtomicU64::new(0),
-        };
+        let gate = CountGate::new();
         let team = Team {
             workers: 2,
             chunk,
@@ -198,7 +183,7 @@ fn work_is_cut_into_chunks_of_members(rt: HostRuntime) -> Result<(), Fail> {
         let from = VertexSubset::from_list(rt.alloc(), 1000, &[900, 1, 30, 400, 7])?;
         let (all, _) = vertex_map(&rt, rt.alloc(), &team, &from, &AlwaysTrue, Free::root())?;
         assert_eq!(rt; all.len(), 5);
-        assert_eq!(rt; gate.passes.load(Ordering::SeqCst), passes, "chunk {chunk}");
+        assert_eq!(rt; gate.take(), passes, "chunk {chunk}");
     }
     Ok(())
 }

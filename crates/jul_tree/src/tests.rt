@@ -6,18 +6,17 @@ ghost use Rattle.jul_base.specs.Sources.{AreSources};
 ghost use Rattle.jul_base.specs.Distances.{AreDistances};
 
 use crate::hops_and_parents;
-use jul_base::{Column, Gate, Ids, NONE, OpenGate, RawGraph};
+use jul_base::{Column, CountGate, Gate, NONE, OpenGate};
 use jul_pool::Team;
 use jul_rows::Rows;
 use std::alloc::Global;
 use std::process::Abort;
-use std::sync::atomic::{AtomicU64, Ordering};
 use std::test::Fail;
 use std::thread::Threads;
 
 /// A ring of weight 0 from 2 to 0, to 1 and back to 2. From 1 and from 2 to 3 (5), from 0 (5), from 2 (6) and from 3 (0) to 4,
 /// and from 5 to 2 (1). No walk leads to 5.
-fn ring(rt: &impl Abort, alloc: Global) -> Result<Rows, Fail>
+fn ring(alloc: Global) -> Result<Rows, Fail>
     ensures lawful { IfOk result (λ rows. IsLawful rows) }
     ensures graph { IfOk result (λ rows. rows ≡ record {
       weighted = true;
@@ -26,18 +25,17 @@ fn ring(rt: &impl Abort, alloc: Global) -> Result<Rows, Fail>
       weights = 0 ∷ 5 ∷ 0 ∷ 5 ∷ 0 ∷ 5 ∷ 6 ∷ 0 ∷ 1 ∷ [];
     }) }
 {
-    let graph = RawGraph {
-        weighted: true,
-        offsets: Ids::from_vec(Vec::from_slice(alloc, [0, 2, 4, 7, 8, 8].as_slice())?),
-        targets: Ids::from_vec(Vec::from_slice(alloc, [1, 4, 2, 3, 0, 3, 4, 4, 2].as_slice())?),
-        weights: Ids::from_vec(Vec::from_slice(alloc, [0, 5, 0, 5, 0, 5, 6, 0, 1].as_slice())?),
-    };
-    assert!(rt; graph.is_lawful());
-    Ok(Rows::of(graph))
+    let rows = Rows::of_lists(
+        alloc,
+        &[0, 2, 4, 7, 8, 8],
+        &[1, 4, 2, 3, 0, 3, 4, 4, 2],
+        &[0, 5, 0, 5, 0, 5, 6, 0, 1],
+    )?;
+    Ok(rows.ok_or("no lawful graph")?)
 }
 
 /// From 0 to 1 (9) and 2 (1), from 1 to 3 (5), from 2 to 1 (6).
-fn diamond(rt: &impl Abort, alloc: Global) -> Result<Rows, Fail>
+fn diamond(alloc: Global) -> Result<Rows, Fail>
     ensures lawful { IfOk result (λ rows. IsLawful rows) }
     ensures graph { IfOk result (λ rows. rows ≡ record {
       weighted = true;
@@ -46,14 +44,8 @@ fn diamond(rt: &impl Abort, alloc: Global) -> Result<Rows, Fail>
       weights = 9 ∷ 1 ∷ 5 ∷ 6 ∷ [];
     }) }
 {
-    let graph = RawGraph {
-        weighted: true,
-        offsets: Ids::from_vec(Vec::from_slice(alloc, [0, 2, 3, 4].as_slice())?),
-        targets: Ids::from_vec(Vec::from_slice(alloc, [1, 2, 3, 1].as_slice())?),
-        weights: Ids::from_vec(Vec::from_slice(alloc, [9, 1, 5, 6].as_slice())?),
-    };
-    assert!(rt; graph.is_lawful());
-    Ok(Rows::of(graph))
+    let rows = Rows::of_lists(alloc, &[0, 2, 3, 4], &[1, 2, 3, 1], &[9, 1, 5, 6])?;
+    Ok(rows.ok_or("no lawful graph")?)
 }
 
 /// Hops and parents with a gate, and one vertex to a chunk.
@@ -102,7 +94,7 @@ fn expect<R: Threads + Sync + Abort>(
 #[test]
 fn the_least_of_the_tight_parents_with_the_fewest_hops(rt: HostRuntime) -> Result<(), Fail> {
     // Both 1 and 2 are tight to 3, and 1 has more hops. Both 0 and 3 are tight to 4, with as many hops.
-    let rows = ring(&rt, rt.alloc())?;
+    let rows = ring(rt.alloc())?;
     expect(
         &rt,
         rt.alloc(),
@@ -117,7 +109,7 @@ fn the_least_of_the_tight_parents_with_the_fewest_hops(rt: HostRuntime) -> Resul
 #[test]
 fn each_of_two_sources_has_no_hops_and_no_parent(rt: HostRuntime) -> Result<(), Fail> {
     // The place of weight 0 from 1 to 2 is tight, and 2 has no parent.
-    let rows = ring(&rt, rt.alloc())?;
+    let rows = ring(rt.alloc())?;
     expect(
         &rt,
         rt.alloc(),
@@ -129,25 +121,11 @@ fn each_of_two_sources_has_no_hops_and_no_parent(rt: HostRuntime) -> Result<(), 
     )
 }
 
-/// Counts its passes.
-#[derive(Drop)]
-struct CountGate {
-    passes: AtomicU64,
-}
-
-impl Gate for CountGate {
-    fn pass(&self, _worker: u32, _chunk: u32) {
-        self.passes.fetch_add(1, Ordering::SeqCst);
-    }
-}
-
 #[test]
 fn the_rounds_go_through_the_pool(rt: HostRuntime) -> Result<(), Fail> {
     // 0 leads to 2, 2 to 1 and 1 to 3: a round for each of the four, with one chunk at least.
-    let rows = diamond(&rt, rt.alloc())?;
-    let gate = CountGate {
-        passes: AtomicU64::new(0),
-    };
+    let rows = diamond(rt.alloc())?;
+    let gate = CountGate::new();
     let (hops, parent) = drawn(
         &rt,
         rt.alloc(),
@@ -159,6 +137,6 @@ fn the_rounds_go_through_the_pool(rt: HostRuntime) -> Result<(), Fail> {
     )?;
     assert_eq!(rt; hops.as_slice(), [0, 2, 1, 3].as_slice());
     assert_eq!(rt; parent.as_slice(), [NONE, 2, 0, 1].as_slice());
-    assert!(rt; gate.passes.load(Ordering::SeqCst) >= 4);
+    assert!(rt; gate.take() >= 4);
     Ok(())
 }
