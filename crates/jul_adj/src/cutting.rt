@@ -14,7 +14,7 @@ use std::thread::Threads;
 pub(crate) const PIECE: usize = 65_536;
 
 /// To read so many bytes is about as much work as a place of an edge map.
-const BYTES_FOR_A_TOKEN: u64 = 8;
+const BYTES_FOR_A_TOKEN: u64 = 4;
 
 /// A text that is cut behind white bytes; each cut is a chunk.
 #[derive(Drop)]

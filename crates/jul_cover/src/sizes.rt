@@ -13,7 +13,7 @@ const STEP: u64 = 4_294_967_296;
 
 /// So many steps over sets and elements count as one of the shares for which a team has workers. A step takes some
 /// nanoseconds, and the start of a thread some ten microseconds.
-pub(crate) const STEPS_FOR_A_SHARE: u64 = 8;
+pub(crate) const STEPS_FOR_A_SHARE: u64 = 4;
 
 /// Whether `x` is at least the `power`-th power of two.
 #[inline]
