@@ -6,7 +6,6 @@ use Rattle.std.proofs.lemmas.Bool.{cases_lt, lt-ltb}
 use Rattle.std.proofs.lemmas.List.Elements.{All-nil, All-cons, All-head, All-tail, All-append, All-contains, All-weaker, All-from_get_or, Contains-get_or}
 use Rattle.jul_base.specs.declared.graphs.RawGraph.{RawGraph}
 use Rattle.jul_base.specs.Graph.{vertices, target, weight, IsPlaceOf, IsLawful}
-use Rattle.jul_base.proofs.GraphLaws.{place_in_range, target_in_range}
 use Rattle.jul_base.specs.Logs.{Log, Entry, LOWER}
 use Rattle.jul_pool.specs.Added.{HasAdded, first_part, entries_of}
 use Rattle.jul_pool.proofs.PartLaws.{HasOnePart}
@@ -28,14 +27,13 @@ use Rattle.jul_dist.specs.Relaxing.{offer, offer_of, Relaxes, AreSums, IsOffered
 -- ---- one application
 
 -- a lowering is what an application may give
-pub lowered_gives : (values : List ℕ) (a : Application) (old new : Seat) (x n : ℕ) → x ≡ offer_of values a → x ≤ MAX_SUM → x < get_or values a.target 0 → new ≡ logs old (lowering a.target x n) →
+pub lowered_gives : (values : List ℕ) (a : Application) (old new : Seat) (x n : ℕ) → x ≡ offer_of values a → x ≤ MAX_SUM → new ≡ logs old (lowering a.target x n) →
     HasAdded (Relaxes values a) (old.log ∷ []) (new.log ∷ []) (nat_lt x n)
-lowered_gives values a old new x n is within less logged = record {
+lowered_gives values a old new x n is within logged = record {
   added = (lowering a.target x n ∷ []) ∷ [];
   gives_out = record {
-    made = λ _ _. ap (λ y. (entry LOWER a.target y (counted (nat_lt x n)) ∷ []) ∷ []) is;
+    made = λ _. ap (λ y. (entry LOWER a.target y (counted (nat_lt x n)) ∷ []) ∷ []) is;
     withheld = λ more. absurd (omega (arith, more, within, is));
-    idle = λ same. absurd (omega (arith, same, less, is));
   };
   log_is = ap (λ (s : Seat). s.log ∷ []) logged;
 }
@@ -46,10 +44,7 @@ module _ (values : List ℕ) where
       ((offer_of values a ≤ MAX_SUM) × (added ≡ (entry LOWER a.target (offer_of values a) (counted answer) ∷ []) ∷ [])) ⊎ (added ≡ [])
   made_or_none a answer added r = elim (cases_lt MAX_SUM (offer_of values a)) [
     | inl more ↦ inr (r.withheld more).1
-    | inr within ↦ elim (cases_lt (offer_of values a) (get_or values a.target 0)) [
-      | inl less ↦ inl (within, r.made within less)
-      | inr same ↦ inr (r.idle same).1
-    ]
+    | inr within ↦ inl (within, r.made within)
   ]
 
   one_part_each : (a : Application) (answer : Bool) (added : Log) → Relaxes values a answer added → HasOnePart added
@@ -79,13 +74,13 @@ module _ (values : List ℕ) where
       (counted_true answer parts.2, parts.0)
 
   -- what was offered is an entry
-  made_entry : (a : Application) (answer : Bool) (added : Log) → Relaxes values a answer added → offer_of values a ≤ MAX_SUM → offer_of values a < get_or values a.target 0 →
+  made_entry : (a : Application) (answer : Bool) (added : Log) → Relaxes values a answer added → offer_of values a ≤ MAX_SUM →
       0 < weigh (is_at a.target (offer_of values a)) (first_part added)
-  made_entry a answer added r within less =
+  made_entry a answer added r within =
       let v : ℕ = a.target in
       let c : ℕ = offer_of values a in
       let e : Entry = entry LOWER v c (counted answer) in
-      let one : weigh (is_at v c) (first_part added) ≡ is_at v c e + 0 = ap (λ l. weigh (is_at v c) (first_part l)) (r.made within less) in
+      let one : weigh (is_at v c) (first_part added) ≡ is_at v c e + 0 = ap (λ l. weigh (is_at v c) (first_part l)) (r.made within) in
       omega (arith, one, at_here v c e refl refl)
 
   -- nothing above MAX_SUM is offered
@@ -107,15 +102,16 @@ module _ (values : List ℕ) where
 -- ---- all of them
 
 -- a vertex that has more than the least is wanted
-wanted_more : (least' : ℕ) (values : List ℕ) (v : ℕ) → least' < get_or values v 0 → may_fall least' values v ≡ true
-wanted_more least' values v more = lt-ltb least' (get_or values v 0) more
+wanted_more : (every : Bool) (least' : ℕ) (values : List ℕ) (v : ℕ) → least' < get_or values v 0 → may_fall every least' values v ≡ true
+wanted_more true least' values v more = refl
+wanted_more false least' values v more = lt-ltb least' (get_or values v 0) more
 
-abbrev pub IsRelaxed : Direction → RawGraph → List ℕ → List ℕ → ℕ → Seat → Seat → List ℕ → Type 0
-IsRelaxed by g members values least old new lowered =
-    IsMapped by g members (may_fall least values) (λ a answer added. Relaxes values a answer added) (old.log ∷ []) (new.log ∷ []) (listed by (vertices g) lowered)
+abbrev pub IsRelaxed : Direction → RawGraph → List ℕ → List ℕ → Bool → ℕ → Seat → Seat → List ℕ → Type 0
+IsRelaxed by g members values every least old new lowered =
+    IsMapped by g members (may_fall every least values) (λ a answer added. Relaxes values a answer added) (old.log ∷ []) (new.log ∷ []) (listed by (vertices g) lowered)
 
-module _ (by : Direction) (g : RawGraph) (lawful : IsLawful g) (members values : List ℕ) (least' : ℕ) (old new : Seat) (lowered : List ℕ) (home : new.home ≡ old.home) (mapped : IsRelaxed by g members values least' old new lowered)
-    (exact : (v : ℕ) → v < vertices g → word_of old v ≡ get_or values v 0) where
+module _ (by : Direction) (g : RawGraph) (lawful : IsLawful g) (members values : List ℕ) (every : Bool) (least' : ℕ) (old new : Seat) (lowered : List ℕ) (home : new.home ≡ old.home)
+    (mapped : IsRelaxed by g members values every least' old new lowered) where
   abbrev entries : List Entry
   entries = entries_of (added_of mapped.done)
 
@@ -136,26 +132,19 @@ module _ (by : Direction) (g : RawGraph) (lawful : IsLawful g) (members values :
   pub word_falls : (v : ℕ) → word_of new v ≤ word_of old v
   word_falls v = omega (arith, word_is v, least_falls v (start_of old.home v) old.log entries)
 
-  -- an offer that is less than the target had was made
-  word_offered : (u p : ℕ) → IsPlaceOf g u p → Contains members u → least' < get_or values (target g p) 0 → offer values u (weight g p) ≤ MAX_SUM →
-      offer values u (weight g p) < get_or values (target g p) 0 → word_of new (target g p) ≤ offer values u (weight g p)
-  word_offered u p at member more within less =
+  -- what a member offers to a vertex that has more than the least was offered
+  pub word_reached : (u p : ℕ) → IsPlaceOf g u p → Contains members u → least' < get_or values (target g p) 0 → offer values u (weight g p) ≤ MAX_SUM →
+      word_of new (target g p) ≤ offer values u (weight g p)
+  word_reached u p at member more within =
       let v : ℕ = target g p in
       let c : ℕ = offer values u (weight g p) in
       let a : Application = application by u p v (weight g p) in
-      let w : IsWanted by g members (may_fall least' values) a =
-      record { by_is = refl; member = member; place = at; target_is = refl; weight_is = refl; target_wanted = wanted_more least' values v more } in
-      let found : OneOf mapped.done (λ d. d.to ≡ a) = applied_to by g members (may_fall least' values) mapped.done lawful mapped.once a w in
+      let w : IsWanted by g members (may_fall every least' values) a =
+      record { by_is = refl; member = member; place = at; target_is = refl; weight_is = refl; target_wanted = wanted_more every least' values v more } in
+      let found : OneOf mapped.done (λ d. d.to ≡ a) = applied_to by g members (may_fall every least' values) mapped.done lawful mapped.once a w in
       let r : Relaxes values a found.one.answer found.one.added = subst (λ b. Relaxes values b found.one.answer found.one.added) found.holds (gave found.one found.there) in
-      let some : 0 < weigh (is_at v c) (first_part found.one.added) = made_entry values a found.one.answer found.one.added r within less in
+      let some : 0 < weigh (is_at v c) (first_part found.one.added) = made_entry values a found.one.answer found.one.added r within in
       omega (arith, word_is v, least_offered v (start_of old.home v) c old.log entries (omega (arith, some, entries_have (is_at v c) mapped.done found.one found.there)))
-
-  pub word_reached : (u p : ℕ) → IsPlaceOf g u p → Contains members u → least' < get_or values (target g p) 0 → offer values u (weight g p) ≤ MAX_SUM →
-      word_of new (target g p) ≤ offer values u (weight g p)
-  word_reached u p at member more within = elim (cases_lt (offer values u (weight g p)) (get_or values (target g p) 0)) [
-    | inl less ↦ word_offered u p at member more within less
-    | inr same ↦ omega (arith, same, word_falls (target g p), exact (target g p) (target_in_range g lawful p (place_in_range g lawful u p at)))
-  ]
 
   -- a word that fell is what a member offered
   pub fell_offered : (v : ℕ) → word_of new v < word_of old v → IsOffered g members values v (word_of new v)
@@ -169,7 +158,7 @@ module _ (by : Direction) (g : RawGraph) (lawful : IsLawful g) (members values :
       let seen : (offer_of values d.to ≤ MAX_SUM) × (0 < is_at v n (entry LOWER d.to.target (offer_of values d.to) (counted d.answer))) =
       shown values (is_at v n) d.to d.answer d.added (gave d by_one.there) by_one.holds in
       let parts : (d.to.target ≡ v) × (offer_of values d.to ≡ n) = at_parts v n (entry LOWER d.to.target (offer_of values d.to) (counted d.answer)) seen.1 in
-      let w : IsWanted by g members (may_fall least' values) d.to = made_wanted by g members (may_fall least' values) mapped.done mapped.once d by_one.there in
+      let w : IsWanted by g members (may_fall every least' values) d.to = made_wanted by g members (may_fall every least' values) mapped.done mapped.once d by_one.there in
       record {
         source = d.to.source;
         place = d.to.place;
@@ -195,7 +184,7 @@ module _ (by : Direction) (g : RawGraph) (lawful : IsLawful g) (members values :
   lowered_in v there =
       answered_true-below (vertices g) v mapped.done
       (All-from_map (λ (a : Application). a.target < vertices g) (λ (d : EdgeDone). d.to) mapped.done
-      (All-weaker (IsWanted by g members (may_fall least' values)) (λ (a : Application). a.target < vertices g) (λ a w. wanted_target by g members (may_fall least' values) a lawful w) (map (λ (d : EdgeDone). d.to) mapped.done) mapped.once.no_other))
+      (All-weaker (IsWanted by g members (may_fall every least' values)) (λ (a : Application). a.target < vertices g) (λ a w. wanted_target by g members (may_fall every least' values) a lawful w) (map (λ (d : EdgeDone). d.to) mapped.done) mapped.once.no_other))
       ((mapped.members_are v).0 there)
 
   pub has_relaxed : IsAlone new → IsSettled new.home new.log → length old.home.starts ≡ vertices g → All (λ u. least' ≤ get_or values u 0) members →
@@ -218,13 +207,13 @@ module _ (by : Direction) (g : RawGraph) (lawful : IsLawful g) (members values :
   }
 
 -- the same after a step that left the root as it was, which told that it is settled
-pub round_relaxed : (by : Direction) (g : RawGraph) (members values : List ℕ) (least' : ℕ) (old mid new : Seat) (lowered : List ℕ) → IsLawful g →
-    IsRelaxed by g members values least' old mid lowered → mid.home ∷ [] ≡ old.home ∷ [] → mid.root ≡ true → mid.out ≡ 0 →
-    new ≡ mid → (IsAlone new → IsSettled new.home new.log) → ((v : ℕ) → v < vertices g → word_of old v ≡ get_or values v 0) → length old.home.starts ≡ vertices g → All (λ u. least' ≤ get_or values u 0) members →
+pub round_relaxed : (by : Direction) (g : RawGraph) (members values : List ℕ) (every : Bool) (least' : ℕ) (old mid new : Seat) (lowered : List ℕ) → IsLawful g →
+    IsRelaxed by g members values every least' old mid lowered → mid.home ∷ [] ≡ old.home ∷ [] → mid.root ≡ true → mid.out ≡ 0 →
+    new ≡ mid → (IsAlone new → IsSettled new.home new.log) → length old.home.starts ≡ vertices g → All (λ u. least' ≤ get_or values u 0) members →
     HasRelaxed g members values least' old new lowered
-round_relaxed by g members values least' old mid new lowered lawful mapped homes root out same settles exact words ahead =
+round_relaxed by g members values every least' old mid new lowered lawful mapped homes root out same settles words ahead =
     let home : mid.home ≡ old.home = cc in
     let alone : IsAlone mid = (root, out) in
     let settles' : IsAlone mid → IsSettled mid.home mid.log = subst (λ (s : Seat). IsAlone s → IsSettled s.home s.log) same settles in
     subst (λ s. HasRelaxed g members values least' old s lowered) (sym same)
-    (has_relaxed by g lawful members values least' old mid lowered home mapped exact alone (settles' alone) words ahead)
+    (has_relaxed by g lawful members values every least' old mid lowered home mapped alone (settles' alone) words ahead)

@@ -1,5 +1,5 @@
 -- One round: what is offered to words, and what is left of them.
-use Rattle.std.specs.Prelude.{◌≡◌, ℕ, ◌+◌, ◌<◌, ◌≤◌, List, [], ◌∷◌, Bool, false, nat_lt, length, slice_index, All, Contains}
+use Rattle.std.specs.Prelude.{◌≡◌, ℕ, ◌+◌, ◌<◌, ◌≤◌, List, [], ◌∷◌, Bool, false, ◌||◌, nat_lt, length, slice_index, All, Contains}
 use Rattle.jul_base.specs.declared.graphs.RawGraph.{RawGraph}
 use Rattle.jul_base.specs.Graph.{vertices, target, weight, IsPlaceOf}
 use Rattle.jul_base.specs.Logs.{Log, Entry, Home, LOWER}
@@ -17,13 +17,12 @@ offer values u w = slice_index values u + w
 abbrev pub offer_of : List ℕ → Application → ℕ
 offer_of values a = offer values a.source a.weight
 
--- An application offers what is less than its target had before the round, up to MAX_SUM: then it logs what it offered, and
--- answers whether the word was greater. Else it offers nothing, and nothing is logged
+-- An application offers up to MAX_SUM: it logs what it offered, and answers whether the word was greater. What is above
+-- that isn't offered, and nothing is logged
 pub record Relaxes (values : List ℕ) (a : Application) (answer : Bool) (added : Log) : Type 0 where
-  pub made : offer_of values a ≤ MAX_SUM → offer_of values a < slice_index values a.target →
+  pub made : offer_of values a ≤ MAX_SUM →
       added ≡ (entry LOWER a.target (offer_of values a) (counted answer) ∷ []) ∷ []
   pub withheld : MAX_SUM < offer_of values a → (answer ≡ false) × (added ≡ [])
-  pub idle : slice_index values a.target ≤ offer_of values a → (answer ≡ false) × (added ≡ [])
 
 -- it may be made with a seat of this home: both vertices are there, and nothing below the floor is offered
 pub record CanRelax (values : List ℕ) (a : Application) (homes : List Home) : Type 0 where
@@ -31,7 +30,6 @@ pub record CanRelax (values : List ℕ) (a : Application) (homes : List Home) : 
   pub homes_are : homes ≡ home ∷ []
   pub source : a.source < length values
   pub target : a.target < length home.starts
-  pub known : a.target < length values
   pub floor : offer_of values a ≤ MAX_SUM → floor_of home a.target ≤ offer_of values a
 
 -- what members offer is no less than the floors
@@ -49,9 +47,9 @@ pub record IsOffered (g : RawGraph) (members values : List ℕ) (v c : ℕ) : Ty
   pub number_is : c ≡ offer values source (weight g place)
   pub within : c ≤ MAX_SUM
 
--- whether places that lead to v are walked: those to vertices that have more than the least
-abbrev pub may_fall : ℕ → List ℕ → ℕ → Bool
-may_fall least values v = nat_lt least (slice_index values v)
+-- whether places that lead to v are walked: those to vertices that have more than the least, or to every vertex
+abbrev pub may_fall : Bool → ℕ → List ℕ → ℕ → Bool
+may_fall every least values v = every || nat_lt least (slice_index values v)
 
 -- no number above MAX_SUM was offered
 abbrev pub AreSums : List Entry → Type 0

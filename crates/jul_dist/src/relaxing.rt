@@ -13,6 +13,8 @@ pub(crate) struct Relax<'a> {
     pub(crate) values: &'a [u64],
     /// No member has less. Vertices with no more than this can't be lowered.
     pub(crate) least: u64,
+    /// Whether every vertex is wanted, so that no target's number is looked at. Else those with more than the least are.
+    pub(crate) every: bool,
     /// The words that are lowered.
     pub(crate) words: &'a MinWords,
 }
@@ -22,7 +24,7 @@ impl<'a> EdgeFn for Relax<'a> {
 
     ghost can_want = { λ f v. v < length f.values.now };
 
-    ghost wanted = { λ f. may_fall f.least f.values.now };
+    ghost wanted = { λ f. may_fall f.every f.least f.values.now };
 
     ghost can_apply = { λ f a home. CanRelax f.values.now a home };
 
@@ -30,7 +32,7 @@ impl<'a> EdgeFn for Relax<'a> {
 
     #[inline]
     fn wants(&self, v: u32) -> bool {
-        self.least < self.values[v as usize]
+        self.every || self.least < self.values[v as usize]
     }
 
     #[inline]
@@ -49,11 +51,6 @@ impl<'a> EdgeFn for Relax<'a> {
         }
         let c = from + u64::from(w);
         if c > MAX_SUM {
-            return false;
-        }
-        // The word is no greater than this, so an offer that isn't less can be left out.
-        let before = self.values[v as usize];
-        if before <= c {
             return false;
         }
         c < hand.words.lower(&mut hand.seat, v, c)

@@ -3,7 +3,6 @@ ghost use Rattle.std.specs.Prelude.{◌≡◌, ℕ, ◌<◌, ◌≤◌, length, 
 ghost use Rattle.jul_base.specs.Graph.{vertices};
 ghost use Rattle.jul_base.specs.InRows.{IsFlip};
 ghost use Rattle.jul_words.specs.Seats.{IsSeatOf, IsAlone};
-ghost use Rattle.jul_words.specs.Least.{word_of};
 ghost use Rattle.jul_subset.specs.Subsets.{IsSubset};
 ghost use Rattle.jul_edge.specs.declared.functions.Direction.TheVariants.{Push};
 ghost use Rattle.jul_edge.specs.EdgeMaps.{listed};
@@ -45,16 +44,17 @@ pub(crate) fn relax_round<R: Threads + Sync, G: Gate>(
     requires table { IsSeatOf words.now seat }
     requires words { length seat.home.starts ≡ vertices rows.now }
     requires alone { IsAlone seat }
-    requires exact { (v : ℕ) → v < vertices rows.now → word_of seat v ≡ slice_index values.now v }
     requires floors { AreAboveFloors rows.now from.now values.now seat.home }
 
     ensures relaxed { IfOk result (λ new.
         HasRelaxed rows.now from.now values.now least seat new lowered.new.items) }
 {
     prove!(rows.n() > 0);
+    // Where each round pushes, only the word of a target is looked at. A pull walks all places that lead to what is wanted.
     let f = Relax {
         values,
         least,
+        every: in_rows.is_none(),
         words,
     };
     let hand = MinHand { words, seat };
