@@ -49,13 +49,13 @@ counts_lower g old bucket counts size first are =
           let is : get_or now v 0 ≡ get_or old v 0 = emptied-other old bucket v v_lt other in
           elim (cases_Bool (has (counted counts) v)) [
             | inl held ↦
-                set-here (reaching g ids) now bucket counts now v (AllPairs-from_increasing (counted counts) are.rises) are.exact held
+                set-here (reaching g ids) now bucket counts now v (AllPairs-from_increasing (counted counts) are.rises) are.each.exact held
                 (λ none. some (sym is ∙ none)) (omega arith)
                 ∙ ap (λ x. max bucket (x - reaching g ids v)) is
             | inr absent ↦
                 let le : bucket ≤ get_or old v 0 = first.first v 0 v_lt some in
                 elim (cases_lt 0 (reaching g ids v)) [
-                  | inl reached ↦ absurd (both_ways _ absent (has-from_Contains (counted counts) v (are.all v (omega arith) reached)))
+                  | inl reached ↦ absurd (both_ways _ absent (has-from_Contains (counted counts) v (are.each.all v (omega arith) reached)))
                   | inr none ↦ set-other now bucket counts now v absent ∙ is ∙ omega arith
                 ]
           ];

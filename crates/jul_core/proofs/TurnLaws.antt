@@ -115,16 +115,16 @@ can_lower g table bucket ids seat s from counts lent can from_is are lent_is = s
   front = can.front;
   ahead = λ k d lt.
       let e : ℕ × ℕ = get_or counts k d in
-      let within : e.0 < vertices g = are.within k d lt in
+      let within : e.0 < vertices g = are.each.within k d lt in
       let range : e.0 < length s.places = omega (arith, within, can.size) in
-      record { in_range = range; some = are.some k d lt; later = λ some. can.later e.0 within some };
+      record { in_range = range; some = are.each.some k d lt; later = λ some. can.later e.0 within some };
 })
 
 -- no more vertices are counted than there are
 pub counts_few : (g : RawGraph) (ids : List ℕ) (counts : List (ℕ × ℕ)) → IsLawful g → AreCounts g ids counts → length counts < 2 ^ 32
 counts_few g ids counts lawful are =
     let same : length (counted counts) ≡ length counts = length-map counts _ in
-    let within : All (λ v. v < vertices g) (counted counts) = All-map (λ v. v < vertices g) (λ (e : ℕ × ℕ). e.0) counts are.within in
+    let within : All (λ v. v < vertices g) (counted counts) = All-map (λ v. v < vertices g) (λ (e : ℕ × ℕ). e.0) counts are.each.within in
     omega (arith, same, length_below (counted counts) (vertices g) are.rises within, lawful.few_vertices)
 
 -- ---- the first turn, and the last

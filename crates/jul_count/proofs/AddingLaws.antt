@@ -1,7 +1,7 @@
 -- Adds at places, one after another in a chunk, and all chunks together.
-use Rattle.std.proofs.Common.{◌≡◌, ℕ, ◌+◌, ◌*◌, ◌<◌, ◌≤◌, List, [], ◌∷◌, ◌++◌, length, map, drop, refl, ap, sym, ◌∙◌, subst, arith, All, Bool, true, false, eqb, cond, Vec, Global, if◌then◌else◌, ⊎_elim, get_or}
-use Rattle.std.specs.Prelude.{Contains, sum_by, ◌&&◌}
-use Rattle.std.specs.List.{flat_map, filter, count_by}
+use Rattle.std.proofs.Common.{suc, ◌≡◌, ℕ, ◌+◌, ◌*◌, ◌<◌, ◌≤◌, List, [], ◌∷◌, ◌++◌, length, map, drop, refl, ap, sym, ◌∙◌, subst, arith, All, Bool, true, false, eqb, cond, Vec, Global, if◌then◌else◌, ⊎_elim, get_or}
+use Rattle.std.specs.Prelude.{Contains, sum_by, ◌&&◌, Option, None, Some, slice_get}
+use Rattle.std.specs.List.{flat_map, filter, count_by, range_with_len}
 use Rattle.std.proofs.lemmas.List.{get_or_default}
 use Rattle.std.proofs.lemmas.Bool.{cond-true, eq-eqb}
 use Rattle.std.proofs.lemmas.List.Sums.{sum_by-cons}
@@ -13,21 +13,23 @@ use Rattle.jul_base.specs.Numbers.{below}
 use Rattle.jul_base.proofs.SetLaws.{Contains-cons_cases}
 use Rattle.jul_base.proofs.SymmetryLaws.{counted_cases}
 use Rattle.jul_pool.specs.Added.{followed_by_all, first_part, entries_of}
-use Rattle.jul_pool.specs.Runs.{EachRunOnce}
+use Rattle.jul_pool.specs.Runs.{Run, IsRun, EachRunOnce}
 use Rattle.jul_pool.proofs.PartLaws.{HasOnePart, one_part}
 use Rattle.jul_words.specs.Weights.{weigh, counted}
+use Rattle.jul_words.proofs.Sums.{weigh-append}
 use Rattle.jul_words.specs.Seats.{Seat}
 use Rattle.jul_words.specs.Counts.{is_add, is_first, adds}
 use Rattle.jul_rows.specs.Visits.{Step, step, Visited, VisitedInOrder, HasPushed, noted_of, push_steps}
 use Rattle.jul_subset.specs.Applications.{Done, AppliedInOrder, answered_true}
 use Rattle.jul_subset.specs.Chunks.{chunk_of}
 use Rattle.jul_subset.proofs.ApplicationLaws.{NotesChunk, notes_hits, all_gathered, applied_from_nil}
+use Rattle.jul_subset.proofs.ChunkLaws.{each_once_sum}
 use Rattle.jul_subset.proofs.PickingLaws.{chunks_weigh}
 use Rattle.jul_count.specs.Adds.{HasAddsFrom, add_weight, places_of, weight_from}
 use Rattle.jul_count.specs.Counts.{reaching}
 use Rattle.jul_count.specs.Counting.{all_wanted, add_of, AddsOne, VisitAdds, steps_of, AddedAll}
 use Rattle.jul_count.proofs.SumLaws.{sum_by-same, sum_by-map, sum_by-flat_map, weigh_is_sum}
-use Rattle.jul_count.proofs.ReachLaws.{reaching_by_places, reached_is_vertex}
+use Rattle.jul_count.proofs.ReachLaws.{reaching_by_places, reached_is_vertex, sum_by-shifted}
 
 abbrev target_of : Step → ℕ
 target_of s = s.target
@@ -128,7 +130,7 @@ firsts_are_hits v (d ∷ ds) each =
       firsts_are_hits v ds (All-tail Given d ds each),
     )
 
-counts_held : (v : ℕ) (xs : List ℕ) → Contains xs v → 0 < count_by (λ x. eqb x v) xs
+pub counts_held : (v : ℕ) (xs : List ℕ) → Contains xs v → 0 < count_by (λ x. eqb x v) xs
 counts_held v [] (k, lt, at) = absurd (omega arith)
 counts_held v (x ∷ xs) held =
     ⊎_elim
@@ -136,12 +138,94 @@ counts_held v (x ∷ xs) held =
     (λ (later : Contains xs v). omega (arith, sum_by-cons (λ y. cond {A = ℕ} (eqb y v) 1 0) x xs, counts_held v xs later))
     (Contains-cons_cases x xs v held)
 
-held_counts : (v : ℕ) (xs : List ℕ) → 0 < count_by (λ x. eqb x v) xs → Contains xs v
+pub held_counts : (v : ℕ) (xs : List ℕ) → 0 < count_by (λ x. eqb x v) xs → Contains xs v
 held_counts v xs some =
     ⊎_elim
     (λ (none : count_by (λ x. eqb x v) xs ≡ 0). absurd (omega arith))
     (λ (found : (k : ℕ) × (k < length xs) × (get_or xs k 0 ≡ v)). let (k, lt, at) = found in (k, lt, get_or_default xs k v 0 lt ∙ at))
     (counted_cases v xs)
+
+-- ---- what chunks noted
+
+-- logs of one part, one behind another and from nothing on, are of one part
+from_none : (added : List Log) → All HasOnePart added → HasOnePart (followed_by_all [] added) × (first_part (followed_by_all [] added) ≡ entries_of added)
+from_none [] each = (omega arith, refl)
+from_none ([] ∷ xs) each = from_none xs (All-tail HasOnePart [] xs each)
+from_none ((es ∷ []) ∷ xs) each =
+    let is : followed_by_all (es ∷ []) xs ≡ (es ++ entries_of xs) ∷ [] = one_part es xs (All-tail HasOnePart (es ∷ []) xs each) in
+    (omega (arith, ap length is), ap first_part is)
+from_none ((es ∷ (fs ∷ parts)) ∷ xs) each = absurd (omega (arith, All-head HasOnePart (es ∷ (fs ∷ parts)) xs each))
+
+abbrev Ran : Type 0
+Ran = Run (Vec ℕ Global)
+
+-- how often v stands in the result of a chunk
+abbrev count_at : ℕ → Option (Vec ℕ Global) → ℕ
+count_at v None = 0
+count_at v (Some o) = count_by (λ x. eqb x v) o.items
+
+module _ (v : ℕ) (wanted : ℕ → List Step) (outs : List (Vec ℕ Global)) where
+  abbrev Did : Ran → Type 0
+  Did = IsRun (NotesChunk AddsOne target_of wanted) outs
+
+  runs_count : (runs : List Ran) → All Did runs →
+      All HasOnePart (map (λ (r : Ran). r.added) runs) × (weigh (is_first v) (entries_of (map (λ (r : Ran). r.added) runs)) ≡ sum_by (λ c. count_at v (slice_get outs c)) (map (λ (r : Ran). r.chunk) runs))
+  runs_count [] each = (All-nil HasOnePart, refl)
+  runs_count (r ∷ runs) each =
+      let one : Did r = All-head Did r runs each in
+      let rest = runs_count runs (All-tail Did r runs each) in
+      let (done, a, is) = one.gives_out in
+      let part = from_none (map (λ (d : Done Step). d.added) done) (one_part_each done a.by.each) in
+      let log : r.added ≡ followed_by_all [] (map (λ (d : Done Step). d.added) done) = a.by.log_is in
+      let first : first_part r.added ≡ entries done = ap first_part log ∙ part.1 in
+      let here : weigh (is_first v) (first_part r.added) ≡ count_at v (slice_get outs r.chunk) =
+      ap (weigh (is_first v)) first ∙ firsts_are_hits v done a.by.each ∙ ap (count_by (λ x. eqb x v)) (sym is) ∙ sym (ap (count_at v) one.stored) in (
+        All-cons HasOnePart r.added (map (λ (r : Ran). r.added) runs) (subst HasOnePart (sym log) part.0) rest.0,
+        omega (
+          arith,
+          weigh-append (is_first v) (first_part r.added) (entries_of (map (λ (r : Ran). r.added) runs)),
+          here,
+          rest.1,
+          sum_by-cons (λ c. count_at v (slice_get outs c)) r.chunk (map (λ (r : Ran). r.chunk) runs),
+        ),
+      )
+
+outs_sum : (v : ℕ) (outs : List (Vec ℕ Global)) → sum_by (λ c. count_at v (slice_get outs c)) (below (length outs)) ≡ sum_by (λ (o : Vec ℕ Global). count_by (λ x. eqb x v) o.items) outs
+outs_sum v [] = refl
+outs_sum v (o ∷ os) =
+    let f : ℕ → ℕ = λ c. count_at v (slice_get (o ∷ os) c) in
+    omega (
+      arith,
+      sum_by-cons f 0 (range_with_len 1 (length os)),
+      sum_by-shifted f 1 0 (length os),
+      sum_by-same (λ c. f (1 + c)) (λ c. count_at v (slice_get os c)) (below (length os)) (λ c. let e : 1 + c ≡ suc c = omega arith in ap f e),
+      outs_sum v os,
+      sum_by-cons (λ (o : Vec ℕ Global). count_by (λ x. eqb x v) o.items) o os,
+    )
+
+-- the results of all chunks have a vertex as often as the entries that were gained mark it
+outs_count : (v : ℕ) (wanted : ℕ → List Step) (chunks : ℕ) (old new gained : List Entry) (outs : List (Vec ℕ Global)) (order : List ℕ) →
+    EachRunOnce (NotesChunk AddsOne target_of wanted) chunks (old ∷ []) (new ∷ []) outs order → new ≡ old ++ gained →
+    count_by (λ x. eqb x v) (flat_map (λ (o : Vec ℕ Global). o.items) outs) ≡ weigh (is_first v) gained
+outs_count v wanted chunks old new gained outs order ran grew =
+    let runs = runs_count v wanted outs ran.runs ran.each in
+    let added = entries_of (map (λ (r : Ran). r.added) ran.runs) in
+    let log : new ∷ [] ≡ (old ++ added) ∷ [] = ran.log_is ∙ one_part old (map (λ (r : Ran). r.added) ran.runs) runs.0 in
+    let log_is : new ≡ old ++ added = cc in
+    let at : ℕ → ℕ = λ c. count_at v (slice_get outs c) in
+    let all : sum_by at (map (λ (r : Ran). r.chunk) ran.runs) ≡ sum_by at (below (length outs)) =
+    ap (sum_by at) ran.order_is ∙ each_once_sum at chunks order ran.once ∙ ap (λ n. sum_by at (below n)) (sym ran.count) in
+    omega (
+      arith,
+      sum_by-flat_map (λ x. cond {A = ℕ} (eqb x v) 1 0) (λ (o : Vec ℕ Global). o.items) outs,
+      outs_sum v outs,
+      all,
+      runs.1,
+      ap (weigh (is_first v)) log_is,
+      weigh-append (is_first v) old added,
+      ap (weigh (is_first v)) grew,
+      weigh-append (is_first v) old gained,
+    )
 
 -- ---- adds by weights
 
@@ -201,33 +285,61 @@ module _ (g : RawGraph) (lawful : IsLawful g) (members : List ℕ) (within : All
       ∙ sum_by-same (λ u. sum_by h (push_steps g all_wanted u)) row (chunk_of members size c) (λ u. row_steps g h u))
       ∙ chunks_weigh row members size 0 chunks enough' ∙ ap (λ n. sum_by row (drop n members)) none ∙ ap (sum_by row) (drop_none members)
 
+  -- the places of some vertices weigh what their rows weigh
+  steps_sum : (weight : ℕ → ℕ → ℕ) (ids : List ℕ) → sum_by (λ (s : Step). weight s.target s.place) (steps_of g ids) ≡ weight_from g (λ p. weight (target g p) p) ids
+  steps_sum weight ids =
+      let h : Step → ℕ = λ s. weight s.target s.place in
+      sum_by-flat_map h (push_steps g all_wanted) ids
+      ∙ sum_by-same (λ u. sum_by h (push_steps g all_wanted u)) (λ u. sum_by (λ p. weight (target g p) p) (places_of g u)) ids (λ u. row_steps g h u)
+
+  -- applications that together were one add for each place
+  module _ (old new : Seat) (home : new.home ≡ old.home) (root : new.root ≡ old.root) (out : new.out ≡ old.out) (done : List (Done Step)) (each : All Given done)
+      (is : new.log ∷ [] ≡ followed_by_all (old.log ∷ []) (map (λ (d : Done Step). d.added) done))
+      (weights : (weight : ℕ → ℕ → ℕ) → sum_by (λ (s : Step). weight s.target s.place) (map (λ (d : Done Step). d.to) done) ≡ weight_from g (λ p. weight (target g p) p) members) where
+    pub log_grew : new.log ≡ old.log ++ entries done
+    log_grew =
+        let log : new.log ∷ [] ≡ (old.log ++ entries done) ∷ [] = is ∙ one_part old.log (map (λ (d : Done Step). d.added) done) (one_part_each done each) in
+        cc
+
+    -- what is noted as often as entries are marked
+    pub added_by : (noted : List ℕ) → ((v : ℕ) → count_by (λ x. eqb x v) noted ≡ weigh (is_first v) (entries done)) → AddedAll g members old new noted
+    added_by noted noted_are =
+        let gained = entries done in
+        let has : HasAddsFrom g members gained = λ weight. weigh_entries (add_weight weight) (λ s. weight s.target s.place) (λ s b. refl) done each ∙ weights weight in
+        record {
+          gained = gained;
+          seat_is = λ i. record { home = home i; root = root i; out = out i; log = log_grew i };
+          adds = has;
+          only = all_are_adds done each;
+          within = λ k d lt.
+              let v = get_or noted k d in
+              reached_is_vertex g lawful members within v
+              (omega (arith, counts_held v noted (Contains-get_or noted k d lt), noted_are v, firsts-le-adds v gained, adds_reach g lawful members gained has v));
+          noted_are = noted_are;
+        }
+
+  -- all members were walked at once
+  pub added_alone : {T : Type 0} (log : T → Log) (first last : T) (old new : Seat) (before after : List ℕ) → HasPushed (VisitAdds log) (steps_of g members) first last before after → before ≡ [] →
+      log first ≡ old.log ∷ [] → log last ≡ new.log ∷ [] → new.home ≡ old.home → new.root ≡ old.root → new.out ≡ old.out → AddedAll g members old new after
+  added_alone log first last old new before after h none first_is last_is home root out =
+      let a : AddedVisits log h.visited first last = added_visits log h.visited first last h.has_visited.in_order in
+      let to_is = a.applied.to_is ∙ h.has_visited.steps_are in
+      let noted : after ≡ answered_true target_of a.done = h.noted_are ∙ ap (λ l. l ++ noted_of h.visited) none ∙ a.noted_are in
+      added_by old new home root out a.done a.applied.by.each
+      (sym last_is ∙ a.applied.by.log_is ∙ ap (λ l. followed_by_all l (map (λ (d : Done Step). d.added) a.done)) first_is)
+      (λ weight. ap (sum_by (λ (s : Step). weight s.target s.place)) to_is ∙ steps_sum weight members)
+      after
+      (λ v. ap (count_by (λ x. eqb x v)) noted ∙ sym (firsts_are_hits v a.done a.applied.by.each))
+
+  -- chunks of members were walked
   pub added_all : (chunks : ℕ) (old new : Seat) (outs : List (Vec ℕ Global)) (order noted : List ℕ) →
       EachRunOnce (NotesChunk AddsOne target_of Wanted) chunks (old.log ∷ []) (new.log ∷ []) outs order → length members ≤ chunks * size →
       new.home ≡ old.home → new.root ≡ old.root → new.out ≡ old.out → noted ≡ flat_map (λ (o : Vec ℕ Global). o.items) outs →
       AddedAll g members old new noted
   added_all chunks old new outs order noted ran enough home root out noted_is =
       let all = all_gathered AddsOne target_of Wanted (NotesChunk AddsOne target_of Wanted) (notes_hits AddsOne target_of Wanted) chunks _ _ outs order ran in
-      let gained = entries all.done in
-      let log : new.log ∷ [] ≡ (old.log ++ gained) ∷ [] = all.by.log_is ∙ one_part old.log (map (λ (d : Done Step). d.added) all.done) (one_part_each all.done all.by.each) in
-      let log_is : new.log ≡ old.log ++ gained = cc in
-      let has : HasAddsFrom g members gained = λ weight.
-      weigh_entries (add_weight weight) (λ s. weight s.target s.place) (λ s b. refl) all.done all.by.each
-      ∙ all.once (λ s. weight s.target s.place)
-      ∙ chunks_sum weight chunks enough in
-      let hits : (v : ℕ) → weigh (is_first v) gained ≡ count_by (λ x. eqb x v) (answered_true target_of all.done) = λ v. firsts_are_hits v all.done all.by.each in
-      let marked : (v : ℕ) → Contains noted v → 0 < weigh (is_first v) gained = λ v h.
-      let held = counts_held v (answered_true target_of all.done) ((all.noted v).0 (subst (λ l. Contains l v) noted_is h)) in omega (arith, held, hits v) in record {
-        gained = gained;
-        seat_is = λ i. record { home = home i; root = root i; out = out i; log = log_is i };
-        adds = has;
-        only = all_are_adds all.done all.by.each;
-        within = λ k d lt.
-            reached_is_vertex g lawful members within _
-            (omega (arith, marked _ (Contains-get_or noted k d lt), firsts-le-adds (get_or noted k d) gained, adds_reach g lawful members gained has (get_or noted k d)));
-        noted_are = λ v. (
-          marked v,
-          (λ some.
-              subst (λ l. Contains l v) (sym noted_is)
-              ((all.noted v).1 (held_counts v (answered_true target_of all.done) (omega (arith, some, hits v))))),
-        );
-      }
+      let weights = λ (weight : ℕ → ℕ → ℕ). all.once (λ s. weight s.target s.place) ∙ chunks_sum weight chunks enough in
+      added_by old new home root out all.done all.by.each all.by.log_is weights noted
+      (λ v.
+      ap (count_by (λ x. eqb x v)) noted_is
+      ∙ outs_count v Wanted chunks old.log new.log (entries all.done) outs order ran (log_grew old new home root out all.done all.by.each all.by.log_is weights))

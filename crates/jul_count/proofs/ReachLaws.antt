@@ -14,7 +14,7 @@ use Rattle.jul_count.specs.Counts.{reaching}
 use Rattle.jul_count.specs.Adds.{places_of, weight_from}
 use Rattle.jul_count.proofs.SumLaws.{sum_by-same, sum_by-map}
 
-sum_by-shifted : (f : ℕ → ℕ) (a b n : ℕ) → sum_by (λ k. f (a + k)) (range_with_len b n) ≡ sum_by f (range_with_len (a + b) n)
+pub sum_by-shifted : (f : ℕ → ℕ) (a b n : ℕ) → sum_by (λ k. f (a + k)) (range_with_len b n) ≡ sum_by f (range_with_len (a + b) n)
 sum_by-shifted f a b zero = refl
 sum_by-shifted f a b (suc n) =
     let e : a + (b + 1) ≡ a + b + 1 = omega arith in

@@ -1,12 +1,12 @@
 -- What is added at each place, by each chunk, and what the root then drains.
-use Rattle.std.specs.Prelude.{◌≡◌, ℕ, ◌++◌, ◌<◌, ◌↔◌, List, [], ◌∷◌, Bool, true, All, length, map, Contains}
-use Rattle.std.specs.List.{flat_map}
+use Rattle.std.specs.Prelude.{◌≡◌, ℕ, ◌++◌, ◌<◌, ◌==◌, List, [], ◌∷◌, Bool, true, All, length, map}
+use Rattle.std.specs.List.{flat_map, count_by}
 use Rattle.jul_base.specs.declared.graphs.RawGraph.{RawGraph}
 use Rattle.jul_base.specs.Graph.{vertices, IsLawful}
 use Rattle.jul_base.specs.Logs.{Log, Entry, Home, ADD}
 use Rattle.jul_words.specs.Weights.{counted, weigh}
 use Rattle.jul_words.specs.Seats.{Seat, entry}
-use Rattle.jul_words.specs.Counts.{draining, tally, is_first}
+use Rattle.jul_words.specs.Counts.{draining, tally, is_first, AreTallies}
 use Rattle.jul_rows.specs.Visits.{Step, Visited, push_steps}
 use Rattle.jul_pool.specs.Added.{HasAdded}
 use Rattle.jul_count.specs.Adds.{HasAddsFrom}
@@ -37,14 +37,21 @@ pub record MayCount (g : RawGraph) (members : List ℕ) (home : List Home) : Typ
   pub members_in : All (λ u. u < vertices g) members
   pub words : All (λ (h : Home). length h.starts ≡ vertices g) home
 
--- the places of all chunks were added, the entries stand behind those of the old log, and each vertex that was 0 at an add is noted
+-- the places of all chunks were added, the entries stand behind those of the old log, and each vertex is noted as often as
+-- it was 0 at an add
 pub record AddedAll (g : RawGraph) (members : List ℕ) (old new : Seat) (noted : List ℕ) : Type 0 where
   pub gained : List Entry
   pub seat_is : new ≡ record { home = old.home; root = old.root; out = old.out; log = old.log ++ gained }
   pub adds : HasAddsFrom g members gained
   pub only : All (λ (e : Entry). e.kind ≡ ADD) gained
   pub within : All (λ v. v < vertices g) noted
-  pub noted_are : (v : ℕ) → Contains noted v ↔ (0 < weigh (is_first v) gained)
+  pub noted_are : (v : ℕ) → count_by (λ x. x == v) noted ≡ weigh (is_first v) gained
+
+-- the same, and before and after the root knows each word by the log alone
+pub record HasTouched (g : RawGraph) (members : List ℕ) (old new : Seat) (noted : List ℕ) : Type 0 where
+  pub added : AddedAll g members old new noted
+  pub before : AreTallies old.home old.log
+  pub after : AreTallies new.home new.log
 
 -- a vertex with what its word is by a log
 abbrev pub word_in : List Entry → ℕ → ℕ × ℕ

@@ -1,6 +1,5 @@
 //! An add for each place from the members, by threads.
 ghost use Rattle.std.specs.Prelude.{◌≡◌, ℕ, ◌*◌, ◌<◌, ◌≤◌, ◌^◌, [], ◌∷◌, true, List, length, IfOk};
-ghost use Rattle.std.specs.List.Sorted.{IsStrictlyIncreasing};
 ghost use Rattle.jul_subset.specs.Chunks.{chunk_of};
 ghost use Rattle.jul_subset.specs.Applications.{Done, AppliedInOrder, answered_true};
 ghost use Rattle.jul_rows.specs.Visits.{Step};
@@ -80,7 +79,8 @@ impl<'a> Job for AddJob<'a> {
     }
 }
 
-/// Adds 1 at the target of each place from the members, in chunks of members, and gives the targets that were 0 at an add.
+/// Adds 1 at the target of each place from the members, and puts the targets that were 0 at an add in place of what `noted`
+/// held. One worker walks all members at once and takes no memory beyond what `noted` has; several take chunks of members.
 pub(crate) fn add_places<'a, R: Threads + Sync, G: Gate>(
     rt: &R,
     alloc: Global,
@@ -88,14 +88,67 @@ pub(crate) fn add_places<'a, R: Threads + Sync, G: Gate>(
     rows: &'a Rows,
     members: &'a [u32],
     hand: CountHand<'a>,
-) -> Result<(CountHand<'a>, Vec<u32>), AllocError>
+    noted: &mut Vec<u32>,
+) -> Result<CountHand<'a>, AllocError>
     requires few { length members.now ≤ 2 ^ 24 }
     requires may { MayCount rows.now members.now (hand.seat.home ∷ []) }
     requires alone { IsAlone hand.seat }
 
-    ensures added { IfOk result (λ r. AddedAll rows.now members.now hand.entry.seat r.0.seat r.1.items) }
+    ensures added { IfOk result (λ r. AddedAll rows.now members.now hand.entry.seat r.seat noted.new.items) }
 {
     let chunks = members.len().div_ceil(team.chunk as usize) as u32;
+    if team.workers.min(chunks) > 1 {
+        return add_chunks(rt, alloc, team, chunks, rows, members, hand, noted);
+    }
+    pass_each(team.gate, chunks);
+    add_members(rows, members, hand, noted)
+}
+
+/// Passes the gate for each chunk, where one worker walks them all at once.
+fn pass_each<G: Gate>(gate: &G, chunks: u32) {
+    for chunk in 0..chunks {
+        gate.pass(0, chunk);
+    }
+}
+
+/// All members are walked by the thread that calls.
+fn add_members<'a>(
+    rows: &Rows,
+    members: &[u32],
+    hand: CountHand<'a>,
+    noted: &mut Vec<u32>,
+) -> Result<CountHand<'a>, AllocError>
+    requires may { MayCount rows.now members.now (hand.seat.home ∷ []) }
+
+    ensures added { IfOk result (λ r. AddedAll rows.now members.now hand.entry.seat r.seat noted.new.items) }
+{
+    let mut hand = hand;
+    let visit = AddVisit {
+        marker: PhantomData,
+    };
+    noted.clear();
+    push_members(rows, &visit, members, &mut hand, noted)?;
+    Ok(hand)
+}
+
+/// The members are walked in chunks by several workers.
+fn add_chunks<'a, R: Threads + Sync, G: Gate>(
+    rt: &R,
+    alloc: Global,
+    team: &Team<'_, G>,
+    chunks: u32,
+    rows: &'a Rows,
+    members: &'a [u32],
+    hand: CountHand<'a>,
+    noted: &mut Vec<u32>,
+) -> Result<CountHand<'a>, AllocError>
+    requires chunks { (length members.now ≤ chunks * team.now.chunk)
+        × ((chunk : ℕ) → chunk < chunks → chunk * team.now.chunk < length members.now) }
+    requires may { MayCount rows.now members.now (hand.seat.home ∷ []) }
+    requires alone { IsAlone hand.seat }
+
+    ensures added { IfOk result (λ r. AddedAll rows.now members.now hand.entry.seat r.seat noted.new.items) }
+{
     let job = AddJob {
         alloc,
         rows,
@@ -103,6 +156,6 @@ pub(crate) fn add_places<'a, R: Threads + Sync, G: Gate>(
         size: team.chunk,
     };
     let ran = run_all(rt, alloc, team, chunks, &job, hand)?;
-    let noted = joined(alloc, &ran.outs)?;
-    Ok((ran.token, noted))
+    *noted = joined(alloc, &ran.outs)?;
+    Ok(ran.token)
 }

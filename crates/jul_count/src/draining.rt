@@ -1,27 +1,27 @@
 //! Words that the root takes back to 0.
-ghost use Rattle.std.specs.Prelude.{◌≡◌, ℕ, ◌<◌, length, map, All, IfOk, OnOk};
-ghost use Rattle.std.specs.List.Sorted.{IsStrictlyIncreasing};
+ghost use Rattle.std.specs.Prelude.{◌≡◌, ℕ, ◌<◌, length, map, All, OnOk};
 ghost use Rattle.jul_words.specs.Seats.{IsSeatOf, IsAlone};
 ghost use Rattle.jul_words.specs.Counts.{IsFew, AreTallies};
+ghost use Rattle.jul_count.specs.Counts.{AreApart};
 ghost use Rattle.jul_count.specs.Counting.{word_in, drained_each};
 
 use jul_words::{CountSeat, CountWords};
-use std::alloc::{AllocError, Global};
+use std::alloc::AllocError;
 
-/// Drains the words of these vertices one by one, and lists each with what it was.
+/// Drains the words of these vertices one by one, and lists each with what it was, in place of what `list` held.
 pub(crate) fn drain_each(
-    alloc: Global,
     counts: &CountWords,
     seat: &mut CountSeat,
     ids: &[u32],
-) -> Result<Vec<(u32, u64)>, AllocError>
+    list: &mut Vec<(u32, u64)>,
+) -> Result<(), AllocError>
     requires table { IsSeatOf counts.now seat.old }
     requires alone { IsAlone seat.old }
-    requires increasing { IsStrictlyIncreasing ids.now }
+    requires apart { AreApart ids.now }
     requires within { All (λ v. v < length seat.old.home.starts) ids.now }
     requires few { All (λ v. IsFew v seat.old.log) ids.now }
 
-    ensures drains { IfOk result (λ drains. drains.items ≡ map (word_in seat.old.log) ids.now) }
+    ensures drains { OnOk result (list.new.items ≡ map (word_in seat.old.log) ids.now) }
     ensures seat { OnOk result (seat.new ≡ record {
       home = seat.old.home;
       root = seat.old.root;
@@ -29,11 +29,11 @@ pub(crate) fn drain_each(
       log = drained_each seat.old.log ids.now;
     }) }
 {
-    let mut drains = Vec::with_capacity(alloc, ids.len())?;
+    list.clear();
     for id in ids {
-        drains.push((*id, counts.drain(seat, *id)))?;
+        list.push((*id, counts.drain(seat, *id)))?;
     }
-    Ok(drains)
+    Ok(())
 }
 
 /// The root with none out learns what its log says of the words. Three loads.

@@ -4,6 +4,7 @@ ghost use Rattle.jul_base.specs.Graph.{vertices, IsLawful};
 ghost use Rattle.jul_subset.specs.Subsets.{IsSubset};
 ghost use Rattle.jul_count.specs.Counts.{AreCounts};
 ghost use Rattle.jul_count.specs.Adds.{CanCount, AreZero, HasCounted};
+ghost use Rattle.jul_count.specs.Counting.{HasTouched};
 
 use crate::adding::add_places;
 use crate::draining::{drain_each, learn};
@@ -67,19 +68,42 @@ fn count_list<R: Threads + Sync, G: Gate>(
     ensures counted { IfOk result (λ r. HasCounted rows.now members.now seat r.1) }
     ensures zero { IfOk result (λ r. AreZero r.1) }
 {
+    let mut noted = Vec::new(alloc);
+    let mut seat = touch(rt, alloc, team, rows, members, counts, seat, &mut noted)?;
+    let touched = VertexSubset::from_unordered(alloc, rows.n(), noted)?;
+    let Some(ids) = touched.as_slice() else {
+        unreachable!()
+    };
+    let mut list = Vec::with_capacity(alloc, ids.len())?;
+    drain_each(counts, &mut seat, ids, &mut list)?;
+    Ok((list, seat))
+}
+
+/// The adds for the places of an increasing list of vertices. The root learns what the words are before and after.
+pub(crate) fn touch<R: Threads + Sync, G: Gate>(
+    rt: &R,
+    alloc: Global,
+    team: &Team<'_, G>,
+    rows: &Rows,
+    members: &[u32],
+    counts: &CountWords,
+    seat: CountSeat,
+    noted: &mut Vec<u32>,
+) -> Result<CountSeat, AllocError>
+    requires lawful { IsLawful rows.now }
+    requires members { IsSubset (record { n = vertices rows.now; members = members.now; dense = false }) }
+    requires words { CanCount (vertices rows.now) counts.now seat }
+
+    ensures touched { IfOk result (λ r. HasTouched rows.now members.now seat r noted.new.items) }
+{
     let mut seat = seat;
     learn(counts, &mut seat);
     let hand = CountHand {
         words: counts,
         seat,
     };
-    let (hand, noted) = add_places(rt, alloc, team, rows, members, hand)?;
+    let hand = add_places(rt, alloc, team, rows, members, hand, noted)?;
     let mut seat = hand.seat;
     learn(counts, &mut seat);
-    let touched = VertexSubset::from_unordered(alloc, rows.n(), noted)?;
-    let Some(ids) = touched.as_slice() else {
-        unreachable!()
-    };
-    let list = drain_each(alloc, counts, &mut seat, ids)?;
-    Ok((list, seat))
+    Ok(seat)
 }

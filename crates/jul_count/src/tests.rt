@@ -3,7 +3,7 @@ ghost use Rattle.std.specs.Prelude.{◌≡◌, ◌≤◌, ◌==◌, not, IfOk};
 ghost use Rattle.jul_base.specs.Graph.{vertices};
 ghost use Rattle.jul_count.specs.Adds.{CanCount};
 
-use crate::{edge_map_count, pack};
+use crate::{edge_counts_noted, edge_map_count, pack};
 use jul_base::{CountGate, Gate, Ids, OpenGate};
 use jul_pool::Team;
 use jul_rows::Rows;
@@ -81,6 +81,50 @@ fn a_vertex_that_several_members_lead_to_stands_once(rt: HostRuntime) -> Result<
     from.to_dense()?;
     let list = counted(&rt, rt.alloc(), &rows, &from, 2, &OpenGate)?;
     assert_eq!(rt; list.as_slice(), expected.as_slice(), "dense");
+    Ok(())
+}
+
+/// The same in no order from a list, into lists that held something.
+fn noted<R: Threads + Sync + Abort, G: Gate>(
+    rt: &R,
+    alloc: Global,
+    rows: &Rows,
+    members: &[u32],
+    workers: u32,
+    gate: &G,
+) -> Result<Vec<(u32, u64)>, Fail>
+    requires workers { (1 ≤ workers) × (workers ≤ 64) }
+{
+    let team = Team {
+        workers,
+        chunk: 1,
+        gate,
+    };
+    let from = VertexSubset::from_list(alloc, rows.n(), members)?;
+    prove!(from.n() == rows.n());
+    let (counts, seat) = counts_for(alloc, rows)?;
+    let mut noted = vec![in alloc; 7u32; 3]?;
+    let mut list = vec![in alloc; (7u32, 7u64); 3]?;
+    let Some(ids) = from.as_slice() else {
+        return Ok(list);
+    };
+    let _seat = edge_counts_noted(
+        rt, alloc, &team, rows, ids, &counts, seat, &mut noted, &mut list,
+    )?;
+    Ok(list)
+}
+
+#[test]
+fn noted_counts_are_the_counts_in_some_order(rt: HostRuntime) -> Result<(), Fail> {
+    let rows = triangles(rt.alloc())?;
+    let expected = [(0, 1), (1, 1), (2, 3), (4, 1), (5, 1)];
+    for workers in [1u32, 2, 7] {
+        let gate = CountGate::new();
+        let mut list = noted(&rt, rt.alloc(), &rows, &[0, 1, 3], workers, &gate)?;
+        list.sort()?;
+        assert_eq!(rt; list.as_slice(), expected.as_slice(), "{workers} workers");
+        assert_eq!(rt; gate.take(), 3, "{workers} workers");
+    }
     Ok(())
 }
 

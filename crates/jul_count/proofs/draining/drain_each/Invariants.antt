@@ -4,5 +4,5 @@ use Rattle.jul_count.proofs.draining.drain_each.Given as goal
 
 abbrev pub invariant-loop-id : goal.invariant-loop-id
 invariant-loop-id l =
-    (l.drains.items ≡ map (word_in l.fn.seat.log) (take l.id-index l.ids))
+    (l.list.items ≡ map (word_in l.fn.seat.log) (take l.id-index l.ids))
     × (l.seat ≡ record { home = l.fn.seat.home; root = l.fn.seat.root; out = l.fn.seat.out; log = drained_each l.fn.seat.log (take l.id-index l.ids) })
