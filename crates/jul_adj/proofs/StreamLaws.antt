@@ -17,8 +17,9 @@ use Rattle.jul_adj.specs.declared.faults.ReadError.{ReadError}
 use Rattle.jul_adj.specs.declared.faults.ReadError.TheVariants as read_errors
 use Rattle.jul_adj.specs.Names.{streamed}
 use Rattle.jul_adj.specs.Reading.{reads, read_tokens, Fails, Gives}
-use Rattle.jul_adj.specs.Blocks.{bytes_in, IsReadOn}
-use Rattle.jul_adj.specs.Pipelines.{HasReadOn}
+use Rattle.jul_adj.specs.declared.blocks.Block.{Block}
+use Rattle.jul_adj.specs.Blocks.{bytes_in, IsReadBlock}
+use Rattle.jul_adj.specs.Pipelines.{HasReadOn, HasAdvanced}
 use Rattle.jul_adj.specs.Streaming.{IsStreamed, IsUnread}
 use Rattle.jul_adj.proofs.BlockLaws.{nothing_more}
 
@@ -56,11 +57,12 @@ long_says bytes limit lt = cond-true _ _ _ (lt-ltb limit (length bytes) lt)
 
 module _ (old now : ShelfState) (name : List ℕ) (limit read : ℕ) (p : Pipeline) (s : IsStreaming old now name read p) where
   -- nothing is left
-  pub stream_end : (next : ShelfState) (count : ℕ) (more : List ℕ) (said : Result RawGraph Fault) → read ≤ limit → count ≡ 0 → IsReadOn now next count more →
+  pub stream_end : (next : ShelfState) (most : ℕ) (b : Block) (said : Result RawGraph Fault) → read ≤ limit → b.count ≡ 0 → IsReadBlock now next most b →
       read_tokens (tokens s.bytes) (length s.bytes) ≡ said → IsStreamed old next name limit said
-  stream_end next count more said le none r is =
+  stream_end next most b said le none r is =
       let short : length s.bytes ≤ limit = omega (arith, s.count, le) in
-      loaded_is_streamed old next name s.bytes limit said (IsLoaded-end old now next name s.bytes r.asked r.answer (limit + 1) count s.loading (omega (arith, short)) r.some none r.moves r.told) (short_says s.bytes limit short ∙ is)
+      let on = r.read in
+      loaded_is_streamed old next name s.bytes limit said (IsLoaded-end old now next name s.bytes on.asked on.answer (limit + 1) b.count s.loading (omega (arith, short)) on.some none on.moves on.told) (short_says s.bytes limit short ∙ is)
 
   -- one byte more than a file may have was read
   pub stream_full : read ≡ limit + 1 → IsStreamed old now name limit (Err (record { kind = TooLong; token = 0; at = limit }))
@@ -68,19 +70,22 @@ module _ (old now : ShelfState) (name : List ℕ) (limit read : ℕ) (p : Pipeli
       loaded_is_streamed old now name s.bytes limit _ (IsLoaded-full old now name s.bytes (limit + 1) s.loading (s.count ∙ all)) (long_says s.bytes limit (omega (arith, s.count, all)))
 
   -- one more block
-  pub stream_more : (next : ShelfState) (p' : Pipeline) → IsReadOn now next p'.ahead.count (bytes_in p'.ahead) → ((bytes : List ℕ) → HasReadOn bytes p → HasReadOn (bytes ++ bytes_in p'.ahead) p') → IsStreaming old next name (read + p'.ahead.count) p'
-  stream_more next p' r held = record {
-    bytes = s.bytes ++ bytes_in p'.ahead;
-    loading = IsLoading-more old now next name s.bytes (s.bytes ++ bytes_in p'.ahead) r.asked r.answer r.more p'.ahead.count s.loading r.moves r.told r.within (ap (λ xs. s.bytes ++ xs) r.are);
-    held = held s.bytes s.held;
-    count = length-append s.bytes (bytes_in p'.ahead) ∙ omega (arith, s.count, ap length r.are, length-take-le p'.ahead.count (r.answer ++ r.more) (omega (arith, r.within, length-append r.answer r.more)));
-  }
+  pub stream_more : (next : ShelfState) (most : ℕ) (p' : Pipeline) → IsReadBlock now next most p'.ahead → HasAdvanced p p' → IsStreaming old next name (read + p'.ahead.count) p'
+  stream_more next most p' r advanced =
+      let b = p'.ahead in
+      let on = r.read in
+      record {
+        bytes = s.bytes ++ bytes_in b;
+        loading = IsLoading-more old now next name s.bytes (s.bytes ++ bytes_in b) on.asked on.answer on.more b.count s.loading on.moves on.told on.within (ap (λ xs. s.bytes ++ xs) on.are);
+        held = advanced.read s.bytes s.held;
+        count = length-append s.bytes (bytes_in b) ∙ omega (arith, s.count, length-take-le b.count b.room.items r.block.within);
+      }
 
   -- what the bytes say of which all were taken
-  pub said_at_end : (next : ShelfState) (p' : Pipeline) (g : Result RawGraph ReadError) → p'.ahead.count ≡ 0 → IsReadOn now next p'.ahead.count (bytes_in p'.ahead) → ((bytes : List ℕ) → HasReadOn bytes p → HasReadOn (bytes ++ bytes_in p'.ahead) p') →
+  pub said_at_end : (p' : Pipeline) (g : Result RawGraph ReadError) → p'.ahead.count ≡ 0 → HasAdvanced p p' →
       ((bytes : List ℕ) → HasReadOn bytes p' → Gives g (read_tokens (tokens bytes) (length bytes))) → Gives g (read_tokens (tokens s.bytes) (length s.bytes))
-  said_at_end next p' g none r held gives =
-      subst (λ b. Gives g (read_tokens (tokens b) (length b))) (nothing_more now next p'.ahead.count s.bytes (bytes_in p'.ahead) r none) (gives (s.bytes ++ bytes_in p'.ahead) (held s.bytes s.held))
+  said_at_end p' g none advanced gives =
+      subst (λ b. Gives g (read_tokens (tokens b) (length b))) (nothing_more s.bytes p'.ahead none) (gives (s.bytes ++ bytes_in p'.ahead) (advanced.read s.bytes s.held))
 
 -- why a file that was read to its end has no graph
 pub unread : (old new : ShelfState) (name : List ℕ) (limit : ℕ) (e : ReadError) (read : Result RawGraph Fault) → Fails e read → ((fault : Fault) → read ≡ Err fault → IsStreamed old new name limit (Err fault)) → StoppedLoading old new name → IsUnread old new name limit (streamed e)

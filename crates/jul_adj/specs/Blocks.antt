@@ -1,8 +1,8 @@
 -- Blocks of a file, and the numbers that threads have read of them.
-use Rattle.std.specs.Prelude.{◌≡◌, ℕ, ◌<◌, ◌≤◌, ◌++◌, List, length, take, slice_range, IfSome}
+use Rattle.std.specs.Prelude.{◌≡◌, ℕ, ◌<◌, ◌≤◌, ◌++◌, List, length, take, slice_range, true, Result, IfSome, IfErr}
 use Rattle.std.specs.Option.{option_map}
 use Rattle.jul_base.specs.Sinks.{Rose}
-use Rattle.jul_base.specs.Shelves.{ShelfState, Moves, after_read}
+use Rattle.jul_base.specs.Shelves.{ShelfState, Moves, after_read, files_and_last}
 use Rattle.jul_text.specs.Cuts.{IsWhiteSpan, AreCutPoints}
 use Rattle.jul_adj.specs.declared.faults.StreamError.{StreamError}
 use Rattle.jul_adj.specs.declared.faults.StreamError.TheVariants.{Failed, Bad, Memory}
@@ -30,8 +30,8 @@ pub record IsBlock (b : Block) : Type 0 where
   pub within : b.count ≤ length b.room.items
   pub numbers : IfSome b.numbers (AreNumbersOf (bytes_in b))
 
--- one read of a shelf, which was asked for some bytes, brought these
-pub record IsReadOn (old new : ShelfState) (count : ℕ) (bytes : List ℕ) : Type 0 where
+-- one read of an open file, asked for at most so many bytes, brought this many to the front of a room
+pub record IsReadOn (old new : ShelfState) (most count : ℕ) (room : List ℕ) : Type 0 where
   pub asked : List ℕ
   pub answer : List ℕ
   pub more : List ℕ
@@ -39,10 +39,23 @@ pub record IsReadOn (old new : ShelfState) (count : ℕ) (bytes : List ℕ) : Ty
   pub moves : IfSome old.told (λ t. Moves t count asked answer)
   pub told : new.told ≡ option_map (after_read count) old.told
   pub within : count ≤ length answer
-  pub are : bytes ≡ take count (answer ++ more)
+  pub are : take count room ≡ take count (answer ++ more)
+  pub few : count ≤ most
+  pub is_open : new.is_open ≡ true
+
+-- the block is whole, and has what such a read brought
+pub record IsReadBlock (old new : ShelfState) (most : ℕ) (b : Block) : Type 0 where
+  pub block : IsBlock b
+  pub read : IsReadOn old new most b.count b.room.items
 
 -- why a block was not read: the shelf failed, or memory ran out
 abbrev pub IsStopped : ShelfState → ShelfState → StreamError → Type 0
 IsStopped old new Failed = Rose old.faults new.faults
 IsStopped old new (Bad fault) = ⊥
 IsStopped old new Memory = Unit {0}
+
+-- what a read leaves of a shelf, also one that was refused: its files, the file opened last, its faults so far
+pub record IsLeft {Y : Type 0} (old new : ShelfState) (result : Result Y StreamError) : Type 0 where
+  pub stopped : IfErr result (IsStopped old new)
+  pub kept : files_and_last new.told ≡ files_and_last old.told
+  pub faults : old.faults ≤ new.faults

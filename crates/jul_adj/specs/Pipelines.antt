@@ -19,3 +19,9 @@ pub record AreBlocks (p : Pipeline) : Type 0 where
 -- how many bytes were read
 abbrev pub bytes_read : Pipeline → ℕ
 bytes_read p = (p.intake.feeder.fed + p.behind.count) + p.ahead.count
+
+-- the block ahead was read behind all that was read before
+pub record HasAdvanced (old new : Pipeline) : Type 0 where
+  pub read : (bytes : List ℕ) → HasReadOn bytes old → HasReadOn (bytes ++ bytes_in new.ahead) new
+  pub blocks : AreBlocks new
+  pub count : bytes_read new ≡ bytes_read old + new.ahead.count

@@ -1,7 +1,6 @@
 //! Blocks of a file, and their numbers, which several threads read.
-ghost use Rattle.std.specs.Prelude.{◌≡◌, ◌≤◌, length, take, None, true, IsTrue, OnOk, IfOk, IfErr};
-ghost use Rattle.jul_base.specs.Shelves.{files_and_last};
-ghost use Rattle.jul_adj.specs.Blocks.{bytes_in, IsBlock, IsReadOn, IsStopped};
+ghost use Rattle.std.specs.Prelude.{◌≡◌, ◌≤◌, length, None, IsTrue, OnOk, IfOk};
+ghost use Rattle.jul_adj.specs.Blocks.{bytes_in, IsBlock, IsReadOn, IsReadBlock, IsLeft};
 
 use crate::cutting::{pieces, read_together};
 use crate::faults::StreamError;
@@ -40,14 +39,9 @@ fn read_front<F: Shelf>(files: &mut F, room: &mut [u8], most: usize) -> Result<u
     requires some { 1 ≤ most }
     requires room { most ≤ length room.old }
 
-    ensures read { IfOk result (λ n. IsReadOn (F.state files.old) (F.state files.new) n (take n room.new)) }
-    ensures most { IfOk result (λ n. n ≤ most) }
+    ensures read { IfOk result (λ n. IsReadOn (F.state files.old) (F.state files.new) most n room.new) }
     ensures room { length room.new ≡ length room.old }
-    ensures is_open { OnOk result ((F.state files.new).is_open ≡ true) }
-
-    ensures stopped { IfErr result (IsStopped (F.state files.old) (F.state files.new)) }
-    ensures kept { files_and_last (F.state files.new).told ≡ files_and_last (F.state files.old).told }
-    ensures faults { (F.state files.old).faults ≤ (F.state files.new).faults }
+    ensures left { IsLeft (F.state files.old) (F.state files.new) result }
 {
     let count = files.read(&mut room[..most])?;
     Ok(count)
@@ -109,14 +103,8 @@ impl Block {
         requires is_open { IsTrue (F.state files.old).is_open }
         requires some { 1 ≤ most }
 
-        ensures read { OnOk result (IsReadOn (F.state files.old) (F.state files.new) self.new.count (bytes_in self.new)) }
-        ensures block { OnOk result (IsBlock self.new) }
-        ensures most { OnOk result (self.new.count ≤ most) }
-        ensures is_open { OnOk result ((F.state files.new).is_open ≡ true) }
-
-        ensures stopped { IfErr result (IsStopped (F.state files.old) (F.state files.new)) }
-        ensures kept { files_and_last (F.state files.new).told ≡ files_and_last (F.state files.old).told }
-        ensures faults { (F.state files.old).faults ≤ (F.state files.new).faults }
+        ensures read { OnOk result (IsReadBlock (F.state files.old) (F.state files.new) most self.new) }
+        ensures left { IsLeft (F.state files.old) (F.state files.new) result }
     {
         self.clear();
         self.make_room(alloc, most)?;

@@ -1,11 +1,10 @@
 //! A file that is read from a shelf block by block, while threads read the numbers of the block before.
-ghost use Rattle.std.specs.Prelude.{◌≡◌, ℕ, ◌+◌, ◌<◌, ◌≤◌, ◌^◌, ◌++◌, List, [], length, true, IsTrue, OnOk, IfErr, IfSome};
+ghost use Rattle.std.specs.Prelude.{◌≡◌, ℕ, ◌+◌, ◌<◌, ◌≤◌, ◌^◌, List, [], length, IsTrue, OnOk, IfSome};
 ghost use Rattle.std.specs.Thread.{IsSync};
-ghost use Rattle.jul_base.specs.Shelves.{files_and_last};
 ghost use Rattle.jul_text.specs.Tokens.{tokens};
-ghost use Rattle.jul_adj.specs.Blocks.{bytes_in, IsBlock, IsReadOn, IsStopped};
-ghost use Rattle.jul_adj.specs.Intakes.{HasTaken};
-ghost use Rattle.jul_adj.specs.Pipelines.{HasReadOn, AreBlocks, bytes_read};
+ghost use Rattle.jul_adj.specs.Blocks.{bytes_in, IsBlock, IsReadBlock, IsLeft};
+ghost use Rattle.jul_adj.specs.Intakes.{HasTaken, HasTakenBlock};
+ghost use Rattle.jul_adj.specs.Pipelines.{HasReadOn, HasAdvanced, AreBlocks, bytes_read};
 ghost use Rattle.jul_adj.specs.Reading.{read_tokens, Gives};
 
 use crate::blocks::Block;
@@ -41,20 +40,13 @@ fn replace_block<F: Shelf>(
     requires block { IsBlock block.old }
     requires count { intake.old.feeder.fed + block.old.count < 2 ^ 63 }
 
-    ensures taken { (b : List ℕ) → HasTaken b intake.old → OnOk result (HasTaken (b ++ bytes_in block.old) intake.new) }
-    ensures count { OnOk result (intake.new.feeder.fed ≡ intake.old.feeder.fed + block.old.count) }
-
-    ensures read { OnOk result (IsReadOn (F.state files.old) (F.state files.new) block.new.count (bytes_in block.new)) }
-    ensures block { OnOk result (IsBlock block.new) }
-    ensures most { OnOk result (block.new.count ≤ most) }
-    ensures is_open { OnOk result ((F.state files.new).is_open ≡ true) }
-
-    ensures stopped { IfErr result (IsStopped (F.state files.old) (F.state files.new)) }
-    ensures kept { files_and_last (F.state files.new).told ≡ files_and_last (F.state files.old).told }
-    ensures faults { (F.state files.old).faults ≤ (F.state files.new).faults }
+    ensures taken { OnOk result (HasTakenBlock intake.old intake.new block.old) }
+    ensures read { OnOk result (IsReadBlock (F.state files.old) (F.state files.new) most block.new) }
+    ensures left { IsLeft (F.state files.old) (F.state files.new) result }
 {
     intake.feed_block(block)?;
-    block.fill(alloc, files, most)
+    block.fill(alloc, files, most)?;
+    Ok(())
 }
 
 // The same for the block behind, while other threads read the numbers of the one ahead up to a bound.
@@ -80,17 +72,9 @@ fn replace_beside<R: Threads + Sync, F: Shelf, G: Gate>(
     ensures bytes { bytes_in ahead.new ≡ bytes_in ahead.old }
     ensures size { ahead.new.count ≡ ahead.old.count }
 
-    ensures taken { (b : List ℕ) → HasTaken b intake.old → OnOk result (HasTaken (b ++ bytes_in behind.old) intake.new) }
-    ensures count { OnOk result (intake.new.feeder.fed ≡ intake.old.feeder.fed + behind.old.count) }
-
-    ensures read { OnOk result (IsReadOn (F.state files.old) (F.state files.new) behind.new.count (bytes_in behind.new)) }
-    ensures block { OnOk result (IsBlock behind.new) }
-    ensures most { OnOk result (behind.new.count ≤ most) }
-    ensures is_open { OnOk result ((F.state files.new).is_open ≡ true) }
-
-    ensures stopped { IfErr result (IsStopped (F.state files.old) (F.state files.new)) }
-    ensures kept { files_and_last (F.state files.new).told ≡ files_and_last (F.state files.old).told }
-    ensures faults { (F.state files.old).faults ≤ (F.state files.new).faults }
+    ensures taken { OnOk result (HasTakenBlock intake.old intake.new behind.old) }
+    ensures read { OnOk result (IsReadBlock (F.state files.old) (F.state files.new) most behind.new) }
+    ensures left { IsLeft (F.state files.old) (F.state files.new) result }
 {
     let (numbers, next) = join_mut(
         rt,
@@ -171,19 +155,9 @@ impl Pipeline {
         requires blocks { AreBlocks self.old }
         requires count { bytes_read self.old < 2 ^ 63 }
 
-        ensures taken { (bytes : List ℕ) → HasReadOn bytes self.old →
-            OnOk result (HasReadOn (bytes ++ bytes_in self.new.ahead) self.new) }
-        ensures blocks { OnOk result (AreBlocks self.new) }
-        ensures count { OnOk result (bytes_read self.new ≡ bytes_read self.old + self.new.ahead.count) }
-
-        ensures read { OnOk result
-            (IsReadOn (F.state files.old) (F.state files.new) self.new.ahead.count (bytes_in self.new.ahead)) }
-        ensures most { OnOk result (self.new.ahead.count ≤ most) }
-        ensures is_open { OnOk result ((F.state files.new).is_open ≡ true) }
-
-        ensures stopped { IfErr result (IsStopped (F.state files.old) (F.state files.new)) }
-        ensures kept { files_and_last (F.state files.new).told ≡ files_and_last (F.state files.old).told }
-        ensures faults { (F.state files.old).faults ≤ (F.state files.new).faults }
+        ensures advanced { OnOk result (HasAdvanced self.old self.new) }
+        ensures read { OnOk result (IsReadBlock (F.state files.old) (F.state files.new) most self.new.ahead) }
+        ensures left { IsLeft (F.state files.old) (F.state files.new) result }
     {
         let team = team_for(team, self.ahead.count);
         let Some(bound) = self.bound_ahead(&team) else {

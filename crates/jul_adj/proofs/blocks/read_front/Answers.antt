@@ -12,4 +12,6 @@ returns-clause-read g c = record {
   told = c.in_ok-count.ensures.ok;
   within = omega (arith, c.in_ok-count.ensures.within, c.read.auto.buf);
   are = refl;
+  few = omega (arith, c.in_ok-count.ensures.within, length-take-le c.args.most c.args.room.now c.requires.room);
+  is_open = c.read.ensures.is_open;
 }

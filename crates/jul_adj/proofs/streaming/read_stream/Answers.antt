@@ -21,11 +21,11 @@ none g c = sym c.last_count-count.ensures ∙ c.if-count-eq0.true
 -- what they say, the file says
 streamed_as : (g : given.Over) (c : After-finish g) (said : Result RawGraph Fault) → read_tokens (tokens (taken g c)) (length (taken g c)) ≡ said → IsStreamed (g.F.Shelf.state c.args.files.now) (g.F.Shelf.state c.advance.new.files) c.args.name.now c.args.limit said
 streamed_as g c said is =
-    stream_end _ _ _ c.args.limit c.loop-read.read c.loop-read.pipeline c.loop-read.invariant.streaming (g.F.Shelf.state c.advance.new.files) c.advance.new.self.ahead.count _ said
+    stream_end _ _ _ c.args.limit c.loop-read.read c.loop-read.pipeline c.loop-read.invariant.streaming (g.F.Shelf.state c.advance.new.files) _ c.advance.new.self.ahead said
     c.loop-read-test.true (none g c) c.in_ok-advance.ensures.read is
 
 gives : (g : given.Over) (c : After-finish g) → Gives c.finish.result (read_tokens (tokens (taken g c)) (length (taken g c)))
-gives g c = said_at_end _ _ _ c.args.limit c.loop-read.read c.loop-read.pipeline c.loop-read.invariant.streaming (g.F.Shelf.state c.advance.new.files) c.advance.new.self c.finish.result (none g c) c.in_ok-advance.ensures.read c.in_ok-advance.ensures.taken c.finish.ensures
+gives g c = said_at_end _ _ _ c.args.limit c.loop-read.read c.loop-read.pipeline c.loop-read.invariant.streaming c.advance.new.self c.finish.result (none g c) c.in_ok-advance.ensures.advanced c.finish.ensures
 
 pub returns-in_err-finish-clause-refused : goal.returns-in_err-finish-clause-refused
 returns-in_err-finish-clause-refused g c =
@@ -34,7 +34,7 @@ returns-in_err-finish-clause-refused g c =
     let fails : Fails e (read_tokens (tokens (taken g at)) (length (taken g at))) = subst (λ r. Gives r (read_tokens (tokens (taken g at)) (length (taken g at)))) c.in_err-finish.was (gives g at) in
     err_unread _ _ c.args.name.now c.args.limit c.from_residual-in_err-finish.result e c.from_residual-in_err-finish.ensures.1
     (unread _ _ c.args.name.now c.args.limit e (read_tokens (tokens (taken g at)) (length (taken g at))) fails (λ fault is. streamed_as g at (Err fault) is)
-    (inr (c.advance.ensures.kept ∙ opened_last _ _ c.args.name.now (taken g at) c.loop-read.invariant.streaming.loading)))
+    (inr (c.advance.ensures.left.kept ∙ opened_last _ _ c.args.name.now (taken g at) c.loop-read.invariant.streaming.loading)))
 
 pub returns-then-count-eq0-clause-graph : goal.returns-then-count-eq0-clause-graph
 returns-then-count-eq0-clause-graph g c =
@@ -50,12 +50,12 @@ pub loop-read-preserved : goal.loop-read-preserved
 loop-read-preserved g c = record {
   streaming =
       subst (λ n. IsStreaming (g.F.Shelf.state c.args.files.now) (g.F.Shelf.state c.advance.new.files) c.args.name.now (c.loop-read.read + n) c.advance.new.self) (sym c.last_count-count.ensures)
-      (stream_more _ _ _ c.args.limit c.loop-read.read c.loop-read.pipeline c.loop-read.invariant.streaming (g.F.Shelf.state c.advance.new.files) c.advance.new.self c.in_ok-advance.ensures.read c.in_ok-advance.ensures.taken);
-  is_open = c.in_ok-advance.ensures.is_open;
-  within = omega (arith, c.in_ok-advance.ensures.most, c.left.ensures.few, c.loop-read-test.true, c.last_count-count.ensures);
-  blocks = c.in_ok-advance.ensures.blocks;
-  count = omega (arith, c.in_ok-advance.ensures.count, c.loop-read.invariant.count, c.last_count-count.ensures);
-  faults = omega (arith, c.advance.ensures.faults, c.loop-read.invariant.faults);
+      (stream_more _ _ _ c.args.limit c.loop-read.read c.loop-read.pipeline c.loop-read.invariant.streaming (g.F.Shelf.state c.advance.new.files) _ c.advance.new.self c.in_ok-advance.ensures.read c.in_ok-advance.ensures.advanced);
+  is_open = c.in_ok-advance.ensures.read.read.is_open;
+  within = omega (arith, c.in_ok-advance.ensures.read.read.few, c.left.ensures.few, c.loop-read-test.true, c.last_count-count.ensures);
+  blocks = c.in_ok-advance.ensures.advanced.blocks;
+  count = omega (arith, c.in_ok-advance.ensures.advanced.count, c.loop-read.invariant.count, c.last_count-count.ensures);
+  faults = omega (arith, c.advance.ensures.left.faults, c.loop-read.invariant.faults);
 }
 
 pub returns-clause-refused : goal.returns-clause-refused
