@@ -1,5 +1,5 @@
 //! A graph file that comes in pieces.
-ghost use Rattle.std.specs.Prelude.{◌≡◌, ℕ, ◌+◌, ◌<◌, ◌≤◌, ◌^◌, ◌++◌, List, [], length, slice_range, IfOk, OnOk};
+ghost use Rattle.std.specs.Prelude.{◌≡◌, ℕ, ◌+◌, ◌<◌, ◌≤◌, ◌^◌, List, [], length, slice_range, IfOk, OnOk};
 ghost use Rattle.jul_text.specs.Tokens.{tokens};
 ghost use Rattle.jul_text.specs.Cuts.{EndsWhite, AreCutPoints};
 ghost use Rattle.jul_adj.specs.Cutting.{IsReadAs, AreCutsRead};
@@ -36,7 +36,7 @@ fn part(text: &[u8], from: usize, to: usize) -> &[u8]
 }
 
 impl Intake {
-    ghost use Rattle.jul_adj.specs.Intakes.{HasTaken};
+    ghost use Rattle.jul_adj.specs.Intakes.{HasTaken, Takes, TakesBehindWhite};
 
     /// A file of which no byte was taken. Takes no memory.
     pub(crate) fn new(alloc: Global) -> Intake
@@ -55,7 +55,7 @@ impl Intake {
     fn feed(&mut self, piece: &[u8]) -> Result<(), AllocError>
         requires { self.old.feeder.fed + length piece.now < 2 ^ 63 }
 
-        ensures taken { (b : List ℕ) → HasTaken b self.old → OnOk result (HasTaken (b ++ piece.now) self.new) }
+        ensures taken { Takes self.old result self.new piece.now }
         ensures count { OnOk result (self.new.feeder.fed ≡ self.old.feeder.fed + length piece.now) }
     {
         self.marks.clear();
@@ -69,7 +69,7 @@ impl Intake {
         requires white { EndsWhite cut.now }
         requires count { self.old.feeder.fed + length cut.now < 2 ^ 63 }
 
-        ensures taken { (b : List ℕ) → HasTaken b self.old → EndsWhite b → OnOk result (HasTaken (b ++ cut.now) self.new) }
+        ensures taken { TakesBehindWhite self.old result self.new cut.now }
         ensures count { OnOk result (self.new.feeder.fed ≡ self.old.feeder.fed + length cut.now) }
     {
         if let Some(bound) = self.reading.bound() {
@@ -94,7 +94,7 @@ impl Intake {
         requires read { IsReadAs cut.now bound read.now }
         requires count { self.old.feeder.fed + length cut.now < 2 ^ 63 }
 
-        ensures taken { (b : List ℕ) → HasTaken b self.old → EndsWhite b → OnOk result (HasTaken (b ++ cut.now) self.new) }
+        ensures taken { TakesBehindWhite self.old result self.new cut.now }
         ensures count { OnOk result (self.new.feeder.fed ≡ self.old.feeder.fed + length cut.now) }
     {
         if let Some(values) = read {
@@ -120,7 +120,7 @@ impl Intake {
         requires read { AreCutsRead text.now points.now (length cuts.now) bound cuts.now }
         requires count { self.old.feeder.fed + length text.now < 2 ^ 63 }
 
-        ensures taken { (b : List ℕ) → HasTaken b self.old → EndsWhite b → OnOk result (HasTaken (b ++ text.now) self.new) }
+        ensures taken { TakesBehindWhite self.old result self.new text.now }
         ensures count { OnOk result (self.new.feeder.fed ≡ self.old.feeder.fed + length text.now) }
     {
         for number in 0..cuts.len() {
@@ -134,7 +134,7 @@ impl Intake {
     fn feed_piece(&mut self, piece: &[u8]) -> Result<(), AllocError>
         requires { self.old.feeder.fed + length piece.now < 2 ^ 63 }
 
-        ensures taken { (b : List ℕ) → HasTaken b self.old → OnOk result (HasTaken (b ++ piece.now) self.new) }
+        ensures taken { Takes self.old result self.new piece.now }
         ensures count { OnOk result (self.new.feeder.fed ≡ self.old.feeder.fed + length piece.now) }
     {
         match white_span(piece) {
@@ -151,7 +151,7 @@ impl Intake {
     pub(crate) fn feed_pieces(&mut self, bytes: &[u8]) -> Result<(), AllocError>
         requires { self.old.feeder.fed + length bytes.now < 2 ^ 63 }
 
-        ensures taken { (b : List ℕ) → HasTaken b self.old → OnOk result (HasTaken (b ++ bytes.now) self.new) }
+        ensures taken { Takes self.old result self.new bytes.now }
         ensures count { OnOk result (self.new.feeder.fed ≡ self.old.feeder.fed + length bytes.now) }
     {
         let mut at = 0;
@@ -168,7 +168,7 @@ impl Intake {
         requires numbers { AreNumbersOf bytes.now numbers.now }
         requires count { self.old.feeder.fed + length bytes.now < 2 ^ 63 }
 
-        ensures taken { (b : List ℕ) → HasTaken b self.old → OnOk result (HasTaken (b ++ bytes.now) self.new) }
+        ensures taken { Takes self.old result self.new bytes.now }
         ensures count { OnOk result (self.new.feeder.fed ≡ self.old.feeder.fed + length bytes.now) }
     {
         let first = numbers.first;
@@ -193,7 +193,7 @@ impl Intake {
         requires block { IsBlock block.now }
         requires count { self.old.feeder.fed + block.now.count < 2 ^ 63 }
 
-        ensures taken { (b : List ℕ) → HasTaken b self.old → OnOk result (HasTaken (b ++ bytes_in block.now) self.new) }
+        ensures taken { Takes self.old result self.new (bytes_in block.now) }
         ensures count { OnOk result (self.new.feeder.fed ≡ self.old.feeder.fed + block.now.count) }
     {
         match &block.numbers {

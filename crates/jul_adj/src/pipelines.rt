@@ -117,7 +117,8 @@ impl Pipeline {
         requires blocks { AreBlocks self.old }
         requires count { bytes_read self.old < 2 ^ 63 }
 
-        ensures taken { (bytes : List ℕ) → HasReadOn bytes self.old → OnOk result (HasTaken bytes self.new.intake) }
+        ensures taken { (bytes : List ℕ) → HasReadOn bytes self.old →
+            OnOk result (HasTaken bytes self.new.intake) }
         ensures count { OnOk result (self.new.intake.feeder.fed ≡ bytes_read self.old) }
         ensures behind { OnOk result (IsBlock self.new.behind) }
         ensures empty { OnOk result (self.new.behind.count ≡ 0) }
@@ -189,7 +190,8 @@ impl Pipeline {
         requires blocks { AreBlocks self }
         requires count { bytes_read self < 2 ^ 63 }
 
-        ensures { (bytes : List ℕ) → HasReadOn bytes self → Gives result (read_tokens (tokens bytes) (length bytes)) }
+        ensures { (bytes : List ℕ) → HasReadOn bytes self →
+            Gives result (read_tokens (tokens bytes) (length bytes)) }
     {
         self.take_all()?;
         let Pipeline {
