@@ -100,15 +100,8 @@ pub(crate) fn add_places<'a, R: Threads + Sync, G: Gate>(
     if team.workers.min(chunks) > 1 {
         return add_chunks(rt, alloc, team, chunks, rows, members, hand, noted);
     }
-    pass_each(team.gate, chunks);
+    team.pass_each(chunks);
     add_members(rows, members, hand, noted)
-}
-
-/// Passes the gate for each chunk, where one worker walks them all at once.
-fn pass_each<G: Gate>(gate: &G, chunks: u32) {
-    for chunk in 0..chunks {
-        gate.pass(0, chunk);
-    }
 }
 
 /// All members are walked by the thread that calls.

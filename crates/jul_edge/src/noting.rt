@@ -119,7 +119,7 @@ pub fn edge_push_noted<R: Threads + Sync, F: EdgeFn, G: Gate>(
     if team.workers.min(chunks) > 1 {
         return note_chunks(rt, alloc, team, chunks, members, visit, token, noted);
     }
-    pass_each(team.gate, chunks);
+    team.pass_each(chunks);
     note_members(members, &visit, token, noted)
 }
 
@@ -132,13 +132,6 @@ fn chunk_count(len: usize, size: u32) -> u32
     ensures within { (chunk : ℕ) → chunk < result → chunk * size < len }
 {
     len.div_ceil(size as usize) as u32
-}
-
-/// Passes the gate for each chunk, where one worker walks them all at once.
-fn pass_each<G: Gate>(gate: &G, chunks: u32) {
-    for chunk in 0..chunks {
-        gate.pass(0, chunk);
-    }
 }
 
 /// All members are walked by the thread that calls.
