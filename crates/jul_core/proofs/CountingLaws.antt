@@ -11,13 +11,13 @@ use Rattle.jul_base.proofs.SetLaws.{Contains-from_has}
 
 -- ---- a list that rises
 
-pub first_less : (x : ℕ) (xs : List ℕ) → AllPairs (λ a b. a < b) (x ∷ xs) → (z : ℕ) → has xs z ≡ true → x < z
+first_less : (x : ℕ) (xs : List ℕ) → AllPairs (λ a b. a < b) (x ∷ xs) → (z : ℕ) → has xs z ≡ true → x < z
 first_less x xs up z held =
     let (k, lt, at) = Contains-from_has xs z held in
     let less : x < get_or xs k z = up 0 (suc k) z (omega arith) (omega arith) in
     omega (arith, less, at)
 
-pub rest_rises : (x : ℕ) (xs : List ℕ) → AllPairs (λ a b. a < b) (x ∷ xs) → AllPairs (λ a b. a < b) xs
+rest_rises : (x : ℕ) (xs : List ℕ) → AllPairs (λ a b. a < b) (x ∷ xs) → AllPairs (λ a b. a < b) xs
 rest_rises x xs up i j d lt in' = up (suc i) (suc j) d (omega arith) (omega arith)
 
 -- whether w stands in a list that rises, counted by its first and its rest

@@ -2,7 +2,6 @@
 use Rattle.std.proofs.Common.{◌≡◌, ℕ, ◌-◌, ◌<◌, ◌≤◌, max, eqb, cond, List, length, get_or, sym, ◌∙◌, ap, arith, inl, inr}
 use Rattle.std.proofs.lemmas.Bool.{cases_lt, cases_eq, cases_Bool, cond-true, cond-false, eq-eqb, ne_eqb, both_ways}
 use Rattle.std.proofs.lemmas.List.{length-map, get_or-map}
-use Rattle.std.proofs.lemmas.List.Kept.{AllPairs-from_increasing}
 use Rattle.jul_base.specs.declared.limits.TheConstants.{NONE}
 use Rattle.jul_base.specs.Sets.{has}
 use Rattle.jul_base.proofs.SetLaws.{has-from_Contains}
@@ -49,7 +48,7 @@ counts_lower g old bucket counts size first are =
           let is : get_or now v 0 ≡ get_or old v 0 = emptied-other old bucket v v_lt other in
           elim (cases_Bool (has (counted counts) v)) [
             | inl held ↦
-                set-here (reaching g ids) now bucket counts now v (AllPairs-from_increasing (counted counts) are.rises) are.each.exact held
+                set-here (reaching g ids) now bucket counts now v are.apart are.each.exact held
                 (λ none. some (sym is ∙ none)) (omega arith)
                 ∙ ap (λ x. max bucket (x - reaching g ids v)) is
             | inr absent ↦

@@ -1,15 +1,15 @@
 -- The moves of a round: they set the place of each vertex counted that is in a bucket, and no other.
-use Rattle.std.proofs.Common.{◌≡◌, ◌≢◌, ℕ, ◌-◌, ◌<◌, max, true, false, eqb, List, [], ◌∷◌, length, get_or, set, sym, ◌∙◌, ap, refl, arith, inl, inr}
-use Rattle.std.specs.List.{AllPairs, All}
+use Rattle.std.proofs.Common.{suc, ◌≡◌, ◌≢◌, ℕ, ◌-◌, ◌<◌, max, true, false, eqb, List, [], ◌∷◌, length, get_or, set, sym, ◌∙◌, ap, refl, arith, inl, inr}
+use Rattle.std.specs.List.{All}
 use Rattle.std.proofs.lemmas.Bool.{cases_Bool, cond-true, cond-false, or_cases, or_parts, eqb-true, eqb-false, ne_eqb, false_from_ne_true}
 use Rattle.std.proofs.lemmas.List.{get_or-set_same, get_or-set_other, length-set}
 use Rattle.std.proofs.lemmas.List.Elements.{All-head, All-tail}
 use Rattle.jul_base.specs.declared.limits.TheConstants.{NONE}
 use Rattle.jul_base.specs.Sets.{has}
 use Rattle.jul_core.specs.PeelMoves.{moves_of}
-use Rattle.jul_count.specs.Counts.{counted}
+use Rattle.jul_base.proofs.SetLaws.{Contains-from_has}
+use Rattle.jul_count.specs.Counts.{counted, AreApart}
 use Rattle.jul_bucket.specs.Places.{set_places}
-use Rattle.jul_core.proofs.CountingLaws.{first_less, rest_rises}
 
 -- the moves of a longer list, where the first is in no bucket and where it is in one
 pub moves-none : (now : List ℕ) (bucket : ℕ) (e : ℕ × ℕ) (es : List (ℕ × ℕ)) → eqb (get_or now e.0 0) NONE ≡ true →
@@ -56,13 +56,13 @@ set-none now bucket (e ∷ es) places v gone =
 
 -- who is counted and in a bucket gets the new place
 pub set-here : (f : ℕ → ℕ) (now : List ℕ) (bucket : ℕ) (counts : List (ℕ × ℕ)) (places : List ℕ) (v : ℕ) →
-    AllPairs (λ a b. a < b) (counted counts) → All (λ (e : ℕ × ℕ). e.1 ≡ f e.0) counts → has (counted counts) v ≡ true →
+    AreApart (counted counts) → All (λ (e : ℕ × ℕ). e.1 ≡ f e.0) counts → has (counted counts) v ≡ true →
     (get_or now v 0 ≡ NONE → ⊥) → v < length places →
     get_or (set_places places (moves_of now bucket counts)) v 0 ≡ max bucket (get_or now v 0 - f v)
-set-here f now bucket [] places v up exact held some v_lt = absurd (cc)
-set-here f now bucket (e ∷ es) places v up exact held some v_lt =
+set-here f now bucket [] places v apart exact held some v_lt = absurd (cc)
+set-here f now bucket (e ∷ es) places v apart exact held some v_lt =
     let x : ℕ = max bucket (get_or now e.0 0 - e.1) in
-    let up' : AllPairs (λ a b. a < b) (counted es) = rest_rises e.0 (counted es) up in
+    let apart' : AreApart (counted es) = λ i j d lt in'. apart (suc i) (suc j) d (omega arith) (omega arith) in
     let exact' : All (λ (e : ℕ × ℕ). e.1 ≡ f e.0) es = All-tail (λ (e : ℕ × ℕ). e.1 ≡ f e.0) e es exact in
     let here : e.1 ≡ f e.0 = All-head (λ (e : ℕ × ℕ). e.1 ≡ f e.0) e es exact in
     elim (or_cases (eqb e.0 v) (has (counted es) v) held) [
@@ -70,7 +70,9 @@ set-here f now bucket (e ∷ es) places v up exact held some v_lt =
           let same : e.0 ≡ v = eqb-true e.0 v now_here in
           let in_bucket : eqb (get_or now e.0 0) NONE ≡ false = ne_eqb _ _ (λ none. some (ap (λ k. get_or now k 0) (sym same) ∙ none)) in
           let absent : has (counted es) v ≡ false =
-          false_from_ne_true _ (λ later. absurd (omega (arith, first_less e.0 (counted es) up v later))) in
+          false_from_ne_true _ (λ later.
+          let (k, lt, there) = Contains-from_has (counted es) v later in
+          apart 0 (suc k) v (omega arith) (omega arith) (same ∙ sym there)) in
           let at : e.0 < length places = omega arith in
           let read : get_or (set places e.0 x) v 0 ≡ x = ap (λ k. get_or (set places e.0 x) k 0) (sym same) ∙ get_or-set_same places e.0 x 0 at in
           ap (λ ms. get_or (set_places places ms) v 0) (moves-some now bucket e es in_bucket)
@@ -81,9 +83,9 @@ set-here f now bucket (e ∷ es) places v up exact held some v_lt =
           elim (cases_Bool (eqb (get_or now e.0 0) NONE)) [
             | inl none ↦
                 ap (λ ms. get_or (set_places places ms) v 0) (moves-none now bucket e es none)
-                ∙ set-here f now bucket es places v up' exact' later some v_lt
+                ∙ set-here f now bucket es places v apart' exact' later some v_lt
             | inr first_some ↦
                 ap (λ ms. get_or (set_places places ms) v 0) (moves-some now bucket e es first_some)
-                ∙ set-here f now bucket es (set places e.0 x) v up' exact' later some (omega (arith, length-set places e.0 x))
+                ∙ set-here f now bucket es (set places e.0 x) v apart' exact' later some (omega (arith, length-set places e.0 x))
           ]
     ]

@@ -15,7 +15,7 @@ use Rattle.jul_core.specs.FirstHeld.{IsFirstHeld}
 use Rattle.jul_core.specs.PeelPlaces.{CountsEachPlace, HasAddsOf, HasOneAddEach}
 use Rattle.jul_count.specs.Adds.{HasAddsFrom}
 use Rattle.jul_core.specs.PeelMoves.{moves_of}
-use Rattle.jul_count.specs.Counts.{AreCounts}
+use Rattle.jul_count.specs.Counts.{AreNotedCounts}
 use Rattle.jul_bucket.specs.Places.{emptied, set_places}
 
 -- buckets that hold the degrees, and no draws, are a start
@@ -57,7 +57,7 @@ PlacesAreCountedOnce =
 abbrev pub CountsLower : Type 0
 CountsLower =
     (g : RawGraph) (old : List ℕ) (bucket : ℕ) (counts : List (ℕ × ℕ)) → length old ≡ vertices g → IsFirstHeld old bucket →
-    AreCounts g (ids_at old bucket) counts →
+    AreNotedCounts g (ids_at old bucket) counts →
     IsLowered g old bucket (set_places (emptied old bucket) (moves_of (emptied old bucket) bucket counts))
 
 -- columns in which each level is written stay right
@@ -96,7 +96,7 @@ IdsAreASubset =
 abbrev pub WholeRoundsKeep : Type 0
 WholeRoundsKeep =
     (g : RawGraph) (t bucket : ℕ) (old new ids : List ℕ) (draws draws' : List Draw) (counts : List (ℕ × ℕ)) → IsLawful g → IsSymmetric g →
-    IsPeeled g t old draws → IsFirstHeld old bucket → ids ≡ ids_at old bucket → AreCounts g ids counts →
+    IsPeeled g t old draws → IsFirstHeld old bucket → ids ≡ ids_at old bucket → AreNotedCounts g ids counts →
     new ≡ set_places (emptied old bucket) (moves_of (emptied old bucket) bucket counts) →
     draws' ≡ draws ++ record { bucket = bucket; ids = ids } ∷ [] → IsPeeled g (t + 1) new draws'
 

@@ -9,13 +9,13 @@ use Rattle.jul_bucket.specs.Places.{IsFirstHeld, emptied, set_places, ids_at}
 use Rattle.jul_bucket.specs.States.{State, IsDrawn}
 use Rattle.jul_count.specs.Adds.{HasAddsFrom}
 use Rattle.jul_core.specs.PeelMoves.{moves_of}
-use Rattle.jul_count.specs.Counts.{AreCounts}
+use Rattle.jul_count.specs.Counts.{AreNotedCounts}
 use Rattle.jul_core.specs.PeelWork.{GoesOn, work_of}
 
 -- next_bucket, the counts, update_buckets
 pub turn : (g : RawGraph) (bucket : ℕ) (ids : List ℕ) (counts : List (ℕ × ℕ)) (gained log log' : List Entry) (old mid new : State) →
     old.order ≡ Increasing → IsDrawn old bucket ids mid →
-    AreCounts g ids counts → HasAddsFrom g ids gained → log' ≡ log ++ gained →
+    AreNotedCounts g ids counts → HasAddsFrom g ids gained → log' ≡ log ++ gained →
     new ≡ record mid { places = set_places mid.places (moves_of mid.places bucket counts) } →
     GoesOn g bucket ids counts gained (work_of old log) (work_of new log')
 turn g bucket ids counts gained log log' old mid new increasing drawn counts_are gained_are log_is new_is =

@@ -1,11 +1,15 @@
 -- A turn of the loop, from the draw to the next one.
-use Rattle.std.proofs.Common.{◌≡◌, ◌≢◌, ℕ, ◌+◌, ◌-◌, ◌<◌, ◌≤◌, ◌^◌, List, [], length, length-append, false, get_or, sym, ◌∙◌, ap, subst, refl, arith, inl, inr, Vec, Global}
+use Rattle.std.proofs.Common.{◌≡◌, ◌≢◌, ℕ, ◌+◌, ◌-◌, ◌<◌, ◌≤◌, ◌^◌, List, [], length, length-append, get_or, eqb, sym, ◌∙◌, ap, subst, refl, arith, inl, inr, Vec, Global}
 use Rattle.std.specs.Prelude.{All, slice_index, Option, MatchOption, Some}
+use Rattle.std.specs.List.{IsDistinct}
 use Rattle.std.specs.List.Sorted.{IsStrictlyIncreasing}
-use Rattle.std.proofs.lemmas.Bool.{cases_eq}
+use Rattle.std.proofs.lemmas.Bool.{cases_eq, eqb-true}
+use Rattle.std.proofs.lemmas.Bool.Decides.{Decides-eqb}
 use Rattle.std.proofs.lemmas.List.{length-map, length-replicate}
-use Rattle.std.proofs.lemmas.List.Elements.{All-map}
-use Rattle.jul_subset.proofs.IncreasingLaws.{length_below}
+use Rattle.std.proofs.lemmas.List.Elements.{All-map, All-contains}
+use Rattle.std.proofs.lemmas.List.Folds.{Any-from_list_any}
+use Rattle.std.proofs.lemmas.Map.Made.{IsDistinct-from_AllPairs}
+use Rattle.std.proofs.lemmas.Map.Steps.{length-le_from_distinct_below}
 use Rattle.jul_base.specs.declared.graphs.RawGraph.{RawGraph}
 use Rattle.jul_base.specs.declared.limits.TheConstants.{NONE}
 use Rattle.jul_base.specs.Graph.{vertices, IsLawful}
@@ -13,7 +17,7 @@ use Rattle.jul_base.specs.Logs.{Home}
 use Rattle.jul_base.specs.Symmetry.{IsSymmetric}
 use Rattle.jul_words.specs.Seats.{Seat, rooted, zeros}
 use Rattle.jul_words.specs.Counts.{adds, drained}
-use Rattle.jul_count.specs.Counts.{AreCounts, counted}
+use Rattle.jul_count.specs.Counts.{AreNotedCounts, counted}
 use Rattle.jul_bucket.specs.declared.orders.Order.{Order}
 use Rattle.jul_bucket.specs.declared.orders.Order.TheVariants.{Increasing}
 use Rattle.jul_bucket.specs.Places.{ids_at, emptied, set_places, AllNone}
@@ -22,7 +26,6 @@ use Rattle.jul_count.specs.Adds.{CanCount}
 use Rattle.jul_core.specs.FirstHeld.{IsFirstHeld}
 use Rattle.jul_core.specs.Peels.{AreDegrees}
 use Rattle.jul_core.specs.PeelMoves.{CanLower}
-use Rattle.jul_subset.specs.Subsets.{Subset}
 use Rattle.jul_core.specs.PeelWork.{IsPeeling, CanRound, HasRound, IsPeeledOut, work_of}
 use Rattle.jul_core.proofs.LowerLaws.{emptied-drawn, emptied-other}
 use Rattle.jul_core.proofs.PeelStatementLaws.{rounds_are_few}
@@ -108,9 +111,9 @@ module _ (g : RawGraph) (lawful : IsLawful g) (table : List ℕ) (home : Home) (
       }
 
 -- what is counted, and lent, may be moved
-pub can_lower : (g : RawGraph) (table : List ℕ) (bucket : ℕ) (ids : List ℕ) (seat : Seat) (s : State) (from : Subset) (counts lent : List (ℕ × ℕ)) → CanRound g table bucket ids seat s →
-    from ≡ (let s : Subset = record { n = vertices g; members = ids; dense = false } in s) → AreCounts g from.members counts → lent ≡ counts → CanLower s bucket lent
-can_lower g table bucket ids seat s from counts lent can from_is are lent_is = subst (CanLower s bucket) (sym lent_is) (record {
+pub can_lower : (g : RawGraph) (table : List ℕ) (bucket : ℕ) (ids : List ℕ) (seat : Seat) (s : State) (counts lent : List (ℕ × ℕ)) → CanRound g table bucket ids seat s →
+    AreNotedCounts g ids counts → lent ≡ counts → CanLower s bucket lent
+can_lower g table bucket ids seat s counts lent can are lent_is = subst (CanLower s bucket) (sym lent_is) (record {
   order = can.order;
   front = can.front;
   ahead = λ k d lt.
@@ -121,11 +124,17 @@ can_lower g table bucket ids seat s from counts lent can from_is are lent_is = s
 })
 
 -- no more vertices are counted than there are
-pub counts_few : (g : RawGraph) (ids : List ℕ) (counts : List (ℕ × ℕ)) → IsLawful g → AreCounts g ids counts → length counts < 2 ^ 32
-counts_few g ids counts lawful are =
+pub counts_few : (g : RawGraph) (ids : List ℕ) (counts lent : List (ℕ × ℕ)) → IsLawful g → AreNotedCounts g ids counts → lent ≡ counts → length lent < 2 ^ 32
+counts_few g ids counts lent lawful are lent_is =
     let same : length (counted counts) ≡ length counts = length-map counts _ in
     let within : All (λ v. v < vertices g) (counted counts) = All-map (λ v. v < vertices g) (λ (e : ℕ × ℕ). e.0) counts are.each.within in
-    omega (arith, same, length_below (counted counts) (vertices g) are.rises within, lawful.few_vertices)
+    let distinct : IsDistinct eqb (counted counts) = IsDistinct-from_AllPairs Decides-eqb (counted counts) are.apart in
+    let few : length (counted counts) ≤ vertices g = length-le_from_distinct_below (counted counts) (vertices g) distinct (λ q held.
+    let (k, v, lt, at, is) = Any-from_list_any (eqb q) (counted counts) held in
+    let same : q ≡ v = eqb-true q v is in
+    let in_range : v < vertices g = All-contains (λ (u : ℕ). u < vertices g) (counted counts) v within (k, lt, at) in
+    omega arith) in
+    omega (arith, same, few, lawful.few_vertices, ap length lent_is)
 
 -- ---- the first turn, and the last
 

@@ -10,7 +10,7 @@ use Rattle.jul_core.specs.Peels.{IsLowered, IsPeeled}
 use Rattle.jul_bucket.specs.declared.draws.Draw.{Draw}
 use Rattle.jul_bucket.specs.Places.{ids_at}
 use Rattle.jul_count.specs.Adds.{places_of}
-use Rattle.jul_count.specs.Counts.{AreCounts}
+use Rattle.jul_count.specs.Counts.{AreNotedCounts}
 use Rattle.jul_core.proofs.PeelStatements.{AddsAreFew, IdsAreASubset, WholeRoundsKeep}
 use Rattle.jul_core.proofs.DrawLaws.{draws_sum}
 use Rattle.jul_core.proofs.PlaceSumLaws.{all_rows}
@@ -20,7 +20,7 @@ use Rattle.jul_core.proofs.PeelStatementLaws.{rounds_keep}
 
 pub whole_rounds_keep : WholeRoundsKeep
 whole_rounds_keep g t bucket old new ids draws draws' counts lawful symmetric peeled first ids_are counts_are new_is draws_are =
-    let counts' : AreCounts g (ids_at old bucket) counts = subst (λ l. AreCounts g l counts) ids_are counts_are in
+    let counts' : AreNotedCounts g (ids_at old bucket) counts = subst (λ l. AreNotedCounts g l counts) ids_are counts_are in
     let lowered : IsLowered g old bucket new = subst (IsLowered g old bucket) (sym new_is) (counts_lower g old bucket counts peeled.places_are.size first counts') in
     let drawn : draws' ≡ draws ++ record { bucket = bucket; ids = ids_at old bucket } ∷ [] =
     draws_are ∙ ap (λ l. draws ++ (let d : Draw = record { bucket = bucket; ids = l } in d) ∷ []) ids_are in

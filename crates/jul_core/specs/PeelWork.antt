@@ -17,7 +17,7 @@ use Rattle.jul_core.specs.FirstHeld.{IsFirstHeld}
 use Rattle.jul_core.specs.PeelPlaces.{HasAddsOf, HasOneAddEach}
 use Rattle.jul_count.specs.Adds.{HasAddsFrom}
 use Rattle.jul_core.specs.PeelMoves.{moves_of}
-use Rattle.jul_count.specs.Counts.{AreCounts}
+use Rattle.jul_count.specs.Counts.{AreNotedCounts}
 use Rattle.jul_bucket.specs.Places.{emptied, set_places}
 
 -- the places and draws of the buckets, and the entries of the log
@@ -42,7 +42,7 @@ pub record GoesOn (g : RawGraph) (bucket : ℕ) (ids : List ℕ) (counts : List 
   pub first : IsFirstHeld old.places bucket
   pub ids_are : ids ≡ ids_at old.places bucket
   pub draws_are : new.draws ≡ old.draws ++ record { bucket = bucket; ids = ids } ∷ []
-  pub counts_are : AreCounts g ids counts
+  pub counts_are : AreNotedCounts g ids counts
   pub gained_are : HasAddsFrom g ids gained
   pub log_is : new.log ≡ old.log ++ gained
   pub places_are : new.places ≡ set_places (emptied old.places bucket) (moves_of (emptied old.places bucket) bucket counts)
@@ -81,7 +81,7 @@ pub record CanRound (g : RawGraph) (table : List ℕ) (bucket : ℕ) (ids : List
 -- what the ids reach was counted, and the moves were made
 pub record HasRound (g : RawGraph) (bucket : ℕ) (ids : List ℕ) (old new : Seat) (before after : State) : Type 0 where
   pub counts : List (ℕ × ℕ)
-  pub counts_are : AreCounts g ids counts
+  pub counts_are : AreNotedCounts g ids counts
   pub counted_is : HasCounted g ids old new
   pub zero : AreZero new
   pub moved : after ≡ record before { places = set_places before.places (moves_of before.places bucket counts) }

@@ -1,5 +1,5 @@
 //! Where the vertices go that lost places: groups of moves, a group for each chunk of vertices.
-ghost use Rattle.std.specs.Prelude.{◌≡◌, ◌*◌, ◌<◌, ◌^◌, [], length, IfOk};
+ghost use Rattle.std.specs.Prelude.{◌≡◌, ℕ, ◌*◌, ◌<◌, ◌≤◌, ◌^◌, [], length, IfOk, OnOk};
 ghost use Rattle.std.specs.List.{flat_map};
 ghost use Rattle.jul_subset.specs.Chunks.{chunk_of};
 ghost use Rattle.jul_core.specs.PeelMoves.{move_of, moves_of, CanLower};
@@ -35,22 +35,24 @@ impl<'a> Job for MoveJob<'a> {
 
     fn run(&self, chunk: u32, _token: &mut Free) -> Result<Vec<(u32, u64)>, AllocError> {
         let group = chunk_at(self.counts, self.size as usize, chunk as usize);
-        moves_among(self.alloc, group, self.bucket, self.buckets)
+        let mut moves = Vec::new(self.alloc);
+        moves_among(group, self.bucket, self.buckets, &mut moves)?;
+        Ok(moves)
     }
 }
 
-/// The moves of some vertices, in order. One that is in no bucket isn't moved.
+/// The moves of some vertices, in order, in place of what `moves` held. A vertex that is in no bucket isn't moved.
 fn moves_among(
-    alloc: Global,
     counts: &[(u32, u64)],
     bucket: u64,
     buckets: &Buckets,
-) -> Result<Vec<(u32, u64)>, AllocError>
+    moves: &mut Vec<(u32, u64)>,
+) -> Result<(), AllocError>
     requires can { CanLower buckets.now bucket counts.now }
 
-    ensures { IfOk result (λ moves. moves.items ≡ flat_map (move_of buckets.now.places bucket) counts.now) }
+    ensures { OnOk result (moves.new.items ≡ flat_map (move_of buckets.now.places bucket) counts.now) }
 {
-    let mut moves = Vec::new(alloc);
+    moves.clear();
     for (v, count) in counts {
         let place = buckets.place(*v);
         if place == NONE {
@@ -62,12 +64,14 @@ fn moves_among(
             Dest::Open(_) | Dest::Overflow => moves.push((*v, next))?,
         }
     }
-    Ok(moves)
+    Ok(())
 }
 
-/// The move of each vertex that is counted and in a bucket: down by its count, but not below the bucket drawn.
+/// The move of each vertex that is counted and in a bucket, in place of what `moves` held: down by its count, but not below
+/// the bucket drawn.
 ///
-/// Workers make a group of moves for each chunk of at most `team.chunk` vertices. Few vertices start no thread.
+/// Workers make a group of moves for each chunk of at most `team.chunk` vertices. Few vertices start no thread, and take
+/// no memory beyond what `moves` has.
 pub(crate) fn moves_down<R: Threads + Sync, G: Gate>(
     rt: &R,
     alloc: Global,
@@ -75,13 +79,46 @@ pub(crate) fn moves_down<R: Threads + Sync, G: Gate>(
     counts: &[(u32, u64)],
     bucket: u64,
     buckets: &Buckets,
-) -> Result<Vec<(u32, u64)>, AllocError>
+    moves: &mut Vec<(u32, u64)>,
+) -> Result<(), AllocError>
     requires few { length counts.now < 2 ^ 32 }
+    requires can { CanLower buckets.now bucket counts.now }
+
+    ensures { OnOk result (moves.new.items ≡ moves_of buckets.now.places bucket counts.now) }
+{
+    let chunks = counts.len().div_ceil(team.chunk as usize) as u32;
+    let team = team.for_work(counts.len() as u64);
+    if team.workers.min(chunks) > 1 {
+        *moves = moves_in_groups(rt, alloc, &team, chunks, counts, bucket, buckets)?;
+        return Ok(());
+    }
+    pass_each(team.gate, chunks);
+    moves_among(counts, bucket, buckets, moves)
+}
+
+/// Passes the gate for each chunk, where one worker makes the moves of all.
+fn pass_each<G: Gate>(gate: &G, chunks: u32) {
+    for chunk in 0..chunks {
+        gate.pass(0, chunk);
+    }
+}
+
+/// The moves are made by several workers, a group for each chunk.
+fn moves_in_groups<R: Threads + Sync, G: Gate>(
+    rt: &R,
+    alloc: Global,
+    team: &Team<'_, G>,
+    chunks: u32,
+    counts: &[(u32, u64)],
+    bucket: u64,
+    buckets: &Buckets,
+) -> Result<Vec<(u32, u64)>, AllocError>
+    requires chunks { (length counts.now ≤ chunks * team.now.chunk)
+        × ((chunk : ℕ) → chunk < chunks → chunk * team.now.chunk < length counts.now) }
     requires can { CanLower buckets.now bucket counts.now }
 
     ensures { IfOk result (λ moves. moves.items ≡ moves_of buckets.now.places bucket counts.now) }
 {
-    let chunks = counts.len().div_ceil(team.chunk as usize) as u32;
     let job = MoveJob {
         alloc,
         counts,
@@ -89,7 +126,6 @@ pub(crate) fn moves_down<R: Threads + Sync, G: Gate>(
         bucket,
         buckets,
     };
-    let team = team.for_work(counts.len() as u64);
-    let done = run_all(rt, alloc, &team, chunks, &job, Free::root())?;
+    let done = run_all(rt, alloc, team, chunks, &job, Free::root())?;
     joined(alloc, &done.outs)
 }

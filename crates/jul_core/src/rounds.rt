@@ -8,15 +8,15 @@ ghost use Rattle.jul_core.specs.PeelWork.{IsPeeling, CanRound, HasRound};
 use crate::moving::moves_down;
 use jul_base::{Gate, MAX_N};
 use jul_bucket::Buckets;
-use jul_count::edge_map_count;
+use jul_count::edge_counts_noted;
 use jul_pool::Team;
 use jul_rows::{Rows, reach_of};
-use jul_subset::VertexSubset;
 use jul_words::{CountSeat, CountWords};
 use std::alloc::{AllocError, Global};
 use std::thread::Threads;
 
-/// Draws bucket after bucket till no vertex is in a bucket. Draw number t is level t.
+/// Draws bucket after bucket till no vertex is in a bucket. Draw number t is level t. Three lists are used again from round
+/// to round, so that a small round costs no more than its work.
 pub(crate) fn peel_rounds<R: Threads + Sync, G: Gate>(
     rt: &R,
     alloc: Global,
@@ -33,11 +33,27 @@ pub(crate) fn peel_rounds<R: Threads + Sync, G: Gate>(
     ensures none_left { IfOk result (λ _. AllNone buckets.new.places) }
 {
     prove!(rows.n() <= MAX_N);
+    let mut noted = Vec::new(alloc);
+    let mut list = Vec::new(alloc);
+    let mut moves = Vec::new(alloc);
     'rounds: loop {
         let Some((bucket, ids)) = buckets.next_bucket()? else {
             return Ok(seat);
         };
-        seat = lower_reached(rt, alloc, team, rows, ids, bucket, counts, seat, buckets)?;
+        seat = lower_reached(
+            rt,
+            alloc,
+            team,
+            rows,
+            ids.as_slice(),
+            bucket,
+            counts,
+            seat,
+            buckets,
+            &mut noted,
+            &mut list,
+            &mut moves,
+        )?;
     }
 }
 
@@ -87,28 +103,30 @@ fn work_to_share(workers: u32, rows: &Rows, drawn: &[u32]) -> u64
 }
 
 /// Moves each vertex that is in a bucket down by the number of places that lead to it from the drawn ones, but not below
-/// the bucket drawn. The places are counted by as many workers as they are worth.
+/// the bucket drawn. The places are counted by as many workers as they are worth. The three lists are filled again.
 fn lower_reached<R: Threads + Sync, G: Gate>(
     rt: &R,
     alloc: Global,
     team: &Team<'_, G>,
     rows: &Rows,
-    drawn: Vec<u32>,
+    drawn: &[u32],
     bucket: u64,
     counts: &CountWords,
     seat: CountSeat,
     buckets: &mut Buckets,
+    noted: &mut Vec<u32>,
+    list: &mut Vec<(u32, u64)>,
+    moves: &mut Vec<(u32, u64)>,
 ) -> Result<CountSeat, AllocError>
-    requires can { CanRound rows.now counts.now bucket drawn.items seat buckets.old }
+    requires can { CanRound rows.now counts.now bucket drawn.now seat buckets.old }
 
-    ensures { IfOk result (λ r. HasRound rows.now bucket drawn.items seat r buckets.old buckets.new) }
+    ensures { IfOk result (λ r. HasRound rows.now bucket drawn.now seat r buckets.old buckets.new) }
 {
-    let n = rows.n();
-    let work = work_to_share(team.workers, rows, drawn.as_slice());
+    prove!(rows.n() <= MAX_N);
+    let work = work_to_share(team.workers, rows, drawn);
     let crew = team.for_members(drawn.len(), work);
-    let from = VertexSubset::from_increasing(alloc, n, drawn);
-    let (list, seat) = edge_map_count(rt, alloc, &crew, rows, &from, counts, seat)?;
-    let moves = moves_down(rt, alloc, team, list.as_slice(), bucket, buckets)?;
+    let seat = edge_counts_noted(rt, alloc, &crew, rows, drawn, counts, seat, noted, list)?;
+    moves_down(rt, alloc, team, list.as_slice(), bucket, buckets, moves)?;
     buckets.update_buckets(moves.as_slice())?;
     Ok(seat)
 }

@@ -79,8 +79,8 @@ impl<'a> Job for AddJob<'a> {
     }
 }
 
-/// Adds 1 at the target of each place from the members, and puts the targets that were 0 at an add in place of what `noted`
-/// held. One worker walks all members at once and takes no memory beyond what `noted` has; several take chunks of members.
+/// Adds 1 at the target of each place from the members, and puts the targets that were 0 at an add in place of what
+/// `noted` held. One worker walks all members at once and takes no memory beyond what `noted` has; several take chunks.
 pub(crate) fn add_places<'a, R: Threads + Sync, G: Gate>(
     rt: &R,
     alloc: Global,

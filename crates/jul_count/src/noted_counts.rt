@@ -14,12 +14,12 @@ use jul_words::{CountSeat, CountWords};
 use std::alloc::{AllocError, Global};
 use std::thread::Threads;
 
-/// Each vertex that a place from the members leads to, with the number of such places, put in place of what `list` held, each
-/// once and in no order. The members are increasing.
+/// Puts each vertex that a place from the members leads to, with the number of such places, in place of what `list` held,
+/// each once and in no order. The members are increasing.
 ///
-/// It is `edge_map_count` without a sort: words, seat and chunks are as there. `noted` is filled with the same vertices on
-/// the way. The time depends on the members and their places alone, and one worker takes no memory beyond what the two
-/// lists have.
+/// It is `edge_map_count` without a sort: words, seat and chunks are as there. `noted` is filled with the same vertices
+/// on the way. The time depends on the members and their places alone, and one worker takes no memory beyond what the
+/// two lists have.
 ///
 /// Memory that runs out is the only refusal. Then the seat is gone, and the table isn't used again.
 pub fn edge_counts_noted<R: Threads + Sync, G: Gate>(
