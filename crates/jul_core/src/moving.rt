@@ -92,15 +92,8 @@ pub(crate) fn moves_down<R: Threads + Sync, G: Gate>(
         *moves = moves_in_groups(rt, alloc, &team, chunks, counts, bucket, buckets)?;
         return Ok(());
     }
-    pass_each(team.gate, chunks);
+    team.pass_each(chunks);
     moves_among(counts, bucket, buckets, moves)
-}
-
-/// Passes the gate for each chunk, where one worker makes the moves of all.
-fn pass_each<G: Gate>(gate: &G, chunks: u32) {
-    for chunk in 0..chunks {
-        gate.pass(0, chunk);
-    }
 }
 
 /// The moves are made by several workers, a group for each chunk.
