@@ -3,12 +3,13 @@ ghost use Rattle.std.specs.Prelude.{◌≡◌, ◌≢◌, ◌<◌, ◌≤◌, �
 ghost use Rattle.jul_base.specs.declared.limits.TheConstants.{NONE, MAX_N};
 ghost use Rattle.jul_bucket.specs.declared.limits.TheConstants.{MAX_OPEN};
 ghost use Rattle.jul_bucket.specs.declared.orders.Order.TheVariants.{Increasing};
+ghost use Rattle.jul_bucket.specs.declared.queues.Spot.TheVariants.{Near, Far};
 ghost use Rattle.jul_bucket.specs.Orders.{turn};
 ghost use Rattle.jul_bucket.specs.Places.{AllNone, IsFirstHeld, NoneBehind, emptied, ids_at, set_places};
 ghost use Rattle.jul_bucket.specs.States.{IsFirstFront};
 ghost use Rattle.jul_bucket.specs.Ranks.{Ranked, IsTaken, IsHeld, after_reaching, start_at, turned_moves};
-ghost use Rattle.jul_bucket.specs.Copies.{copies_at, IsFirstOpen, IsFirstAt};
-ghost use Rattle.jul_bucket.specs.QueueViews.{ranked_of, IsQueue, IsNearSpent, IsSpot};
+ghost use Rattle.jul_bucket.specs.Copies.{copies_at};
+ghost use Rattle.jul_bucket.specs.QueueViews.{ranked_of, IsQueue, IsSpot};
 
 use crate::copies::{clear_lists, find_level, find_open};
 use crate::gathering::{Held, Taken, ids_of, settle, take_out, taken_of};
@@ -167,8 +168,7 @@ impl RankQueue {
     /// Takes out the ids of near list `i`, the first that holds its rank.
     fn take_near(&mut self, i: usize) -> Result<Taken, AllocError>
         requires queue { IsQueue self.old }
-        requires found { IsFirstOpen self.old.ranks.items self.old.near.items self.old.base
-            (self.old.front - self.old.base) self.old.end i }
+        requires spot { IsSpot self.old (Near i) }
 
         ensures taken { IfOk result (λ t. IsTaken (ranked_of self.old) t (ranked_of self.new)) }
         ensures err { OnErr result (ranked_of self.new ≡ ranked_of self.old) }
@@ -176,7 +176,8 @@ impl RankQueue {
     {
         let rank = self.base + i as u64;
         let copies = self.near[i].as_slice();
-        let taken = taken_of(self.alloc, self.ranks.as_slice(), copies, rank)?;
+        let ids = ids_of(self.alloc, self.ranks.as_slice(), copies, rank)?;
+        let taken = taken_of(self.alloc, rank, ids)?;
         self.pass(rank);
         self.empty(taken.ids.as_slice());
         Ok(taken)
@@ -185,15 +186,14 @@ impl RankQueue {
     /// Takes out the ids of a rank in a level, where no near list and no level before holds a rank that it is for.
     fn take_far(&mut self, level: usize, rank: u64) -> Result<Taken, AllocError>
         requires queue { IsQueue self.old }
-        requires none { IsNearSpent self.old }
-        requires found { IsFirstAt self.old.ranks.items self.old.levels.items self.old.bounds level rank }
+        requires spot { IsSpot self.old (Far level rank) }
 
         ensures taken { IfOk result (λ t. IsTaken (ranked_of self.old) t (ranked_of self.new)) }
         ensures err { OnErr result (ranked_of self.new ≡ ranked_of self.old) }
         ensures queue { IsQueue self.new }
     {
-        let copies = self.levels[level].as_slice();
-        let taken = taken_of(self.alloc, self.ranks.as_slice(), copies, rank)?;
+        let ids = self.far_ids(level, rank)?;
+        let taken = taken_of(self.alloc, rank, ids)?;
         self.advance(level, rank)?;
         self.empty(taken.ids.as_slice());
         Ok(taken)
@@ -202,8 +202,7 @@ impl RankQueue {
     /// Tells the ids of near list `i`, the first that holds its rank. The list has no other copies then.
     fn hold_near(&mut self, i: usize) -> Result<Held, AllocError>
         requires queue { IsQueue self.old }
-        requires found { IsFirstOpen self.old.ranks.items self.old.near.items self.old.base
-            (self.old.front - self.old.base) self.old.end i }
+        requires spot { IsSpot self.old (Near i) }
 
         ensures held { IfOk result (λ h. IsHeld (ranked_of self.old) h (ranked_of self.new)) }
         ensures err { OnErr result (ranked_of self.new ≡ ranked_of self.old) }
@@ -219,17 +218,26 @@ impl RankQueue {
     /// Tells the ids of a rank in a level, where no near list and no level before holds a rank that it is for.
     fn hold_far(&mut self, level: usize, rank: u64) -> Result<Held, AllocError>
         requires queue { IsQueue self.old }
-        requires none { IsNearSpent self.old }
-        requires found { IsFirstAt self.old.ranks.items self.old.levels.items self.old.bounds level rank }
+        requires spot { IsSpot self.old (Far level rank) }
 
         ensures held { IfOk result (λ h. IsHeld (ranked_of self.old) h (ranked_of self.new)) }
         ensures err { OnErr result (ranked_of self.new ≡ ranked_of self.old) }
         ensures queue { IsQueue self.new }
     {
-        let copies = self.levels[level].as_slice();
-        let ids = ids_of(self.alloc, self.ranks.as_slice(), copies, rank)?;
+        let ids = self.far_ids(level, rank)?;
         self.advance(level, rank)?;
         Ok(Held { rank, ids })
+    }
+
+    /// The ids of a rank in a level, where no near list and no level before holds a rank that it is for.
+    fn far_ids(&self, level: usize, rank: u64) -> Result<Vec<u32>, AllocError>
+        requires queue { IsQueue self.now }
+        requires spot { IsSpot self.now (Far level rank) }
+
+        ensures { IfOk result (λ ids. ids.items ≡ ids_at self.now.ranks.items rank) }
+    {
+        let copies = self.levels[level].as_slice();
+        ids_of(self.alloc, self.ranks.as_slice(), copies, rank)
     }
 
     /// Lets the queue stand at the least rank, which has a near list.
@@ -251,8 +259,7 @@ impl RankQueue {
     /// The level is spread over the near lists, which begin at this rank then, and over the levels before it.
     fn advance(&mut self, level: usize, rank: u64) -> Result<(), AllocError>
         requires queue { IsQueue self.old }
-        requires none { IsNearSpent self.old }
-        requires found { IsFirstAt self.old.ranks.items self.old.levels.items self.old.bounds level rank }
+        requires spot { IsSpot self.old (Far level rank) }
 
         ensures reached { OnOk result (ranked_of self.new ≡ after_reaching (ranked_of self.old) rank) }
         ensures err { OnErr result (ranked_of self.new ≡ ranked_of self.old) }

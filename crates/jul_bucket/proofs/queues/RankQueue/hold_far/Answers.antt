@@ -1,29 +1,9 @@
-use Rattle.std.proofs.Common.{◌∙◌, length, arith, ap}
-use Rattle.jul_bucket.specs.Places.{ids_at}
-use Rattle.jul_bucket.specs.Copies.{copies_at}
-use Rattle.jul_bucket.proofs.CopyLaws.{slice-index, All-copies}
-use Rattle.jul_bucket.proofs.TakingLaws as laws
-use Rattle.jul_bucket.proofs.TakingLaws.{fields_of, all_lent, ids_lent}
+use Rattle.jul_bucket.proofs.TakingLaws.{level_first}
 use Rattle.jul_bucket.proofs.queues.RankQueue.hold_far.Goals as goal
 
-pub ids_of-requires-clause-ids : goal.ids_of-requires-clause-ids
-ids_of-requires-clause-ids c =
-    let s = c.args.self.now in
-    All-copies (length c.as_slice.result.now) s.levels.items c.args.level c.as_slice-copies.result.now
-    (ids_lent c.as_slice.result.now s.ranks.items s.levels.items c.as_slice.ensures.value c.requires.queue.lists.level_ids)
-    (slice-index s.levels.items c.args.level c.index.result.now c.as_slice-copies.result.now (omega (arith, c.requires.found.in_levels, c.requires.queue.lists.levels)) c.index.ensures c.as_slice-copies.ensures.value)
-
-pub ids_of-requires-clause-all : goal.ids_of-requires-clause-all
-ids_of-requires-clause-all c =
-    let s = c.args.self.now in
-    all_lent s.ranks.items c.as_slice.result.now (copies_at c.args.self.now.levels.items c.args.level) c.as_slice-copies.result.now c.args.rank c.as_slice.ensures.value
-    (slice-index s.levels.items c.args.level c.index.result.now c.as_slice-copies.result.now (omega (arith, c.requires.found.in_levels, c.requires.queue.lists.levels)) c.index.ensures c.as_slice-copies.ensures.value)
-    (laws.level_all s.open_count s.near_count s.ranks.items s.front s.start s.base s.end s.bounds s.near.items s.levels.items (fields_of s c.requires.queue) c.requires.none c.args.level c.args.rank c.requires.found)
-
 pub returns-clause-held : goal.returns-clause-held
-returns-clause-held c =
-    let s = c.args.self.now in record {
-      first = laws.level_first s.open_count s.near_count s.ranks.items s.front s.start s.base s.end s.bounds s.near.items s.levels.items (fields_of s c.requires.queue) c.requires.none c.args.level c.args.rank c.requires.found;
-      ids_are = c.in_ok-ids.ensures ∙ ap (λ l. ids_at l c.args.rank) c.as_slice.ensures.value;
-      after = c.in_ok-advance.ensures.reached;
-    }
+returns-clause-held c = record {
+  first = level_first c.args.self.now c.requires.queue c.requires.spot.0 c.args.level c.args.rank c.requires.spot.1;
+  ids_are = c.in_ok-ids.ensures;
+  after = c.in_ok-advance.ensures.reached;
+}

@@ -1,36 +1,25 @@
-use Rattle.std.proofs.Common.{◌∙◌, ◌+◌, length, arith, ap}
+use Rattle.std.proofs.Common.{◌∙◌, ◌+◌, ap}
 use Rattle.jul_bucket.specs.Places.{ids_at}
 use Rattle.jul_bucket.specs.QueueViews.{ranked_of}
-use Rattle.jul_bucket.specs.Copies.{copies_at}
-use Rattle.jul_bucket.proofs.CopyLaws.{slice-index, All-copies}
 use Rattle.jul_bucket.proofs.TakingLaws as laws
-use Rattle.jul_bucket.proofs.TakingLaws.{fields_of, all_lent, ids_lent, taken_at}
+use Rattle.jul_bucket.proofs.TakingLaws.{taken_at}
 use Rattle.jul_bucket.proofs.queues.RankQueue.take_near.Goals as goal
 
-pub taken_of-requires-clause-ids : goal.taken_of-requires-clause-ids
-taken_of-requires-clause-ids c =
-    let s = c.args.self.now in
-    All-copies (length c.as_slice.result.now) s.near.items c.args.i c.as_slice-copies.result.now
-    (ids_lent c.as_slice.result.now s.ranks.items s.near.items c.as_slice.ensures.value c.requires.queue.lists.near_ids)
-    (slice-index s.near.items c.args.i c.index.result.now c.as_slice-copies.result.now (omega (arith, c.requires.found.early, c.requires.queue.lists.end_few, c.requires.queue.lists.near)) c.index.ensures c.as_slice-copies.ensures.value)
+pub ids_of-requires-clause-ids : goal.ids_of-requires-clause-ids
+ids_of-requires-clause-ids c =
+    laws.near_ids c.args.self.now c.requires.queue c.as_slice.result.now c.as_slice.ensures.value c.args.i c.requires.spot.early c.index.result.now c.as_slice-copies.result.now c.index.ensures c.as_slice-copies.ensures.value
 
-pub taken_of-requires-clause-all : goal.taken_of-requires-clause-all
-taken_of-requires-clause-all c =
-    let s = c.args.self.now in
-    all_lent s.ranks.items c.as_slice.result.now (copies_at c.args.self.now.near.items c.args.i) c.as_slice-copies.result.now (c.args.self.now.base + c.args.i) c.as_slice.ensures.value
-    (slice-index s.near.items c.args.i c.index.result.now c.as_slice-copies.result.now (omega (arith, c.requires.found.early, c.requires.queue.lists.end_few, c.requires.queue.lists.near)) c.index.ensures c.as_slice-copies.ensures.value)
-    (laws.near_all s.open_count s.near_count s.ranks.items s.front s.start s.base s.end s.bounds s.near.items s.levels.items (fields_of s c.requires.queue) c.args.i c.requires.found.early)
+pub ids_of-requires-clause-all : goal.ids_of-requires-clause-all
+ids_of-requires-clause-all c =
+    laws.near_all c.args.self.now c.requires.queue c.as_slice.result.now c.as_slice.ensures.value c.args.i c.requires.spot.early c.index.result.now c.as_slice-copies.result.now c.index.ensures c.as_slice-copies.ensures.value
 
 pub pass-requires-clause-first : goal.pass-requires-clause-first
-pass-requires-clause-first c =
-    let s = c.args.self.now in
-    laws.near_first s.open_count s.near_count s.ranks.items s.front s.start s.base s.end s.bounds s.near.items s.levels.items (fields_of s c.requires.queue) c.args.i c.requires.found
+pass-requires-clause-first c = laws.near_first c.args.self.now c.requires.queue c.args.i c.requires.spot
 
 pub returns-clause-taken : goal.returns-clause-taken
 returns-clause-taken c =
     let s = c.args.self.now in
     let rank = s.base + c.args.i in
     let taken = c.in_ok-taken.ensures in
-    taken_at (ranked_of s) (ranked_of c.pass.new.self) (ranked_of c.empty.new.self) rank c.in_ok-taken.taken taken.rank
-    (laws.near_first s.open_count s.near_count s.ranks.items s.front s.start s.base s.end s.bounds s.near.items s.levels.items (fields_of s c.requires.queue) c.args.i c.requires.found)
-    (taken.ids ∙ ap (λ l. ids_at l rank) c.as_slice.ensures.value) taken.kept c.pass.ensures.reached c.empty.ensures.emptied
+    taken_at (ranked_of s) (ranked_of c.pass.new.self) (ranked_of c.empty.new.self) rank c.in_ok-taken.taken taken.rank (laws.near_first s c.requires.queue c.args.i c.requires.spot)
+    (taken.ids ∙ c.in_ok-ids.ensures ∙ ap (λ l. ids_at l rank) c.as_slice.ensures.value) taken.kept c.pass.ensures.reached c.empty.ensures.emptied
