@@ -84,23 +84,6 @@ fn ids_of(
     Ok((subset.ids()?, by))
 }
 
-fn pushed<R: Threads + Sync + Abort>(
-    rt: &R,
-    alloc: Global,
-    team: &Team<'_, CountGate>,
-    rows: &Rows,
-    from: &VertexSubset,
-) -> Result<(Vec<u32>, Direction), AllocError>
-    requires { from.now.n ≡ vertices rows.now }
-{
-    let (stamps, seat) = stamps_for(alloc, rows)?;
-    let token = Free::root();
-    let out = edge_push(
-        rt, alloc, team, rows, from, &Always, token, &stamps, seat, 1,
-    )?;
-    ids_of(rt, &out.subset, out.direction)
-}
-
 fn pulled<R: Threads + Sync + Abort>(
     rt: &R,
     alloc: Global,
@@ -117,91 +100,15 @@ fn pulled<R: Threads + Sync + Abort>(
     ids_of(rt, &out.subset, Direction::Pull)
 }
 
-fn mapped<R: Threads + Sync + Abort>(
-    rt: &R,
-    alloc: Global,
-    team: &Team<'_, CountGate>,
-    rows: &Rows,
-    in_rows: &InRows,
-    from: &VertexSubset,
-) -> Result<(Vec<u32>, Direction), AllocError>
-    requires n { from.now.n ≡ vertices rows.now }
-    requires flip { IsFlip rows.now in_rows.now }
-{
-    let (stamps, seat) = stamps_for(alloc, rows)?;
-    let token = Free::root();
-    let out = edge_map(
-        rt, alloc, team, rows, in_rows, from, &Always, token, &stamps, seat, 1,
-    )?;
-    ids_of(rt, &out.subset, out.direction)
-}
-
-fn mapped_above<R: Threads + Sync + Abort>(
-    rt: &R,
-    alloc: Global,
-    team: &Team<'_, CountGate>,
-    rows: &Rows,
-    in_rows: &InRows,
-    from: &VertexSubset,
-    threshold: u64,
-) -> Result<(Vec<u32>, Direction), AllocError>
-    requires n { from.now.n ≡ vertices rows.now }
-    requires flip { IsFlip rows.now in_rows.now }
-{
-    let (stamps, seat) = stamps_for(alloc, rows)?;
-    let token = Free::root();
-    let out = edge_map_with_threshold(
-        rt, alloc, team, rows, in_rows, from, 5, threshold, &Always, token, &stamps, seat, 1,
-    )?;
-    ids_of(rt, &out.subset, out.direction)
-}
-
-fn mapped_by_reach<R: Threads + Sync + Abort>(
-    rt: &R,
-    alloc: Global,
-    team: &Team<'_, CountGate>,
-    rows: &Rows,
-    in_rows: Option<&InRows>,
-    from: &VertexSubset,
-    reach: u64,
-) -> Result<(Vec<u32>, Direction), AllocError>
-    requires n { from.now.n ≡ vertices rows.now }
-    requires flip { IfSome in_rows (λ r. IsFlip rows.now r.now) }
-{
-    let (stamps, seat) = stamps_for(alloc, rows)?;
-    let token = Free::root();
-    let out = edge_map_by_reach(
-        rt, alloc, team, rows, in_rows, from, reach, &Always, token, &stamps, seat, 1,
-    )?;
-    ids_of(rt, &out.subset, out.direction)
-}
-
+/// The targets that are noted by this reach, or by a push where none is given.
 fn noted<R: Threads + Sync>(
     rt: &R,
     alloc: Global,
     team: &Team<'_, CountGate>,
     rows: &Rows,
-    from: &VertexSubset,
-) -> Result<(Vec<u32>, Direction), AllocError>
-    requires { from.now.n ≡ vertices rows.now }
-{
-    prove!(from.n() == rows.n());
-    let members = from.ids()?;
-    let members = members.as_slice();
-    let mut noted = Vec::new(alloc);
-    let token = Free::root();
-    edge_push_noted(rt, alloc, team, rows, members, &Always, token, &mut noted)?;
-    Ok((in_order(noted), Direction::Push))
-}
-
-fn noted_by_reach<R: Threads + Sync>(
-    rt: &R,
-    alloc: Global,
-    team: &Team<'_, CountGate>,
-    rows: &Rows,
     in_rows: Option<&InRows>,
     from: &VertexSubset,
-    reach: u64,
+    reach: Option<u64>,
 ) -> Result<(Vec<u32>, Direction), AllocError>
     requires n { from.now.n ≡ vertices rows.now }
     requires flip { IfSome in_rows (λ r. IsFlip rows.now r.now) }
@@ -211,6 +118,10 @@ fn noted_by_reach<R: Threads + Sync>(
     let members = members.as_slice();
     let mut noted = Vec::new(alloc);
     let token = Free::root();
+    let Some(reach) = reach else {
+        edge_push_noted(rt, alloc, team, rows, members, &Always, token, &mut noted)?;
+        return Ok((in_order(noted), Direction::Push));
+    };
     let out = edge_notes_by_reach(
         rt, alloc, team, rows, in_rows, members, reach, &Always, token, &mut noted,
     )?;
@@ -230,17 +141,32 @@ fn targets_by<R: Threads + Sync + Abort>(
 {
     let in_rows = rows.flip()?;
     let given = Some(&in_rows);
-    match call {
-        Call::Push => pushed(rt, alloc, team, rows, from),
-        Call::Pull => pulled(rt, alloc, team, rows, &in_rows, from),
-        Call::Map => mapped(rt, alloc, team, rows, &in_rows, from),
-        Call::Above(threshold) => mapped_above(rt, alloc, team, rows, &in_rows, from, threshold),
-        Call::ByReach(reach) => mapped_by_reach(rt, alloc, team, rows, given, from, reach),
-        Call::ByReachAlone(reach) => mapped_by_reach(rt, alloc, team, rows, None, from, reach),
-        Call::Noted => noted(rt, alloc, team, rows, from),
-        Call::NotedByReach(reach) => noted_by_reach(rt, alloc, team, rows, given, from, reach),
-        Call::NotedByReachAlone(reach) => noted_by_reach(rt, alloc, team, rows, None, from, reach),
-    }
+    let (stamps, seat) = stamps_for(alloc, rows)?;
+    let free = Free::root();
+    let out = match call {
+        Call::Pull => return pulled(rt, alloc, team, rows, &in_rows, from),
+        Call::Noted => return noted(rt, alloc, team, rows, None, from, None),
+        Call::NotedByReach(reach) => {
+            return noted(rt, alloc, team, rows, given, from, Some(reach));
+        }
+        Call::NotedByReachAlone(reach) => {
+            return noted(rt, alloc, team, rows, None, from, Some(reach));
+        }
+        Call::Push => edge_push(rt, alloc, team, rows, from, &Always, free, &stamps, seat, 1)?,
+        Call::Map => edge_map(
+            rt, alloc, team, rows, &in_rows, from, &Always, free, &stamps, seat, 1,
+        )?,
+        Call::Above(threshold) => edge_map_with_threshold(
+            rt, alloc, team, rows, &in_rows, from, 5, threshold, &Always, free, &stamps, seat, 1,
+        )?,
+        Call::ByReach(reach) => edge_map_by_reach(
+            rt, alloc, team, rows, given, from, reach, &Always, free, &stamps, seat, 1,
+        )?,
+        Call::ByReachAlone(reach) => edge_map_by_reach(
+            rt, alloc, team, rows, None, from, reach, &Always, free, &stamps, seat, 1,
+        )?,
+    };
+    ids_of(rt, &out.subset, out.direction)
 }
 
 /// Ends the test where a call from some vertices gives other targets or walks another way. Gives how many chunks there were.
