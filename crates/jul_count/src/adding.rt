@@ -42,6 +42,10 @@ impl<'a> Visit for AddVisit<'a> {
         true
     }
 
+    fn touch(&self, hand: &CountHand<'a>, _u: u32, _place: u32, v: u32) {
+        hand.words.touch(&hand.seat, v);
+    }
+
     fn visit(&self, hand: &mut CountHand<'a>, _u: u32, place: u32, v: u32) -> bool {
         hand.words.add(&mut hand.seat, v, place) == 0
     }

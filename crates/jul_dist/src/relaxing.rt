@@ -36,6 +36,11 @@ impl<'a> EdgeFn for Relax<'a> {
     }
 
     #[inline]
+    fn touch(&self, hand: &MinHand<'a>, v: u32) {
+        hand.words.touch(&hand.seat, v);
+    }
+
+    #[inline]
     fn apply(
         &self,
         hand: &mut MinHand<'a>,

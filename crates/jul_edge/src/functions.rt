@@ -37,6 +37,12 @@ pub trait EdgeFn: Sync {
 
         ensures { result ≡ wanted self.now v };
 
+    /// Reads ahead what `apply` will read at a place that leads to `v`, so that a cache has it then. It changes nothing, and
+    /// does nothing where a function has no such method of its own. Pushes ask for it.
+    fn touch(&self, token: &Self::Token, v: u32)
+        requires { (a : Application) × (a.target ≡ v) × can_apply self.now a (Self.Token.home token.now) }
+    {}
+
     /// Answers whether `v` is to be in the subset that is made. The edge at `place` leads from `u` to `v` and has the
     /// weight `w`. Of the token only the log changes.
     fn apply(

@@ -49,6 +49,10 @@ impl<'a, F: EdgeFn> Visit for NoteVisit<'a, F> {
         self.f.wants(v)
     }
 
+    fn touch(&self, state: &F::Token, _u: u32, _place: u32, v: u32) {
+        self.f.touch(state, v);
+    }
+
     fn visit(&self, state: &mut F::Token, u: u32, place: u32, v: u32) -> bool {
         let w = self.rows.weight(place);
         self.f.apply(state, Direction::Push, u, place, v, w)

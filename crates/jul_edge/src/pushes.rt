@@ -54,6 +54,10 @@ impl<'a, F: EdgeFn> Visit for PushVisit<'a, F> {
         self.f.wants(v)
     }
 
+    fn touch(&self, state: &Both<F::Token, StampHand<'a>>, _u: u32, _place: u32, v: u32) {
+        self.f.touch(&state.a, v);
+    }
+
     /// Answers whether the function answered true and no other visit stamped `v` first.
     fn visit(&self, state: &mut Both<F::Token, StampHand<'a>>, u: u32, place: u32, v: u32) -> bool {
         let w = self.rows.weight(place);

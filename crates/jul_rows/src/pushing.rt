@@ -36,6 +36,23 @@ fn push_place<V: Visit>(
     Ok(())
 }
 
+/// Reads ahead what the visits of the wanted places of `u` will read. No read waits for the one before, as a visit may.
+fn touch_row<V: Visit>(rows: &Rows, visit: &V, u: u32, state: &V::State)
+    requires lawful { IsLawful rows.now }
+    requires vertex { u < vertices rows.now }
+    requires want { (v : ℕ) → v < vertices rows.now → V.can_want visit.now v }
+    requires can { (s : Step) → IsPushed rows.now (V.wanted visit.now) u s →
+        V.can_visit visit.now s state.now }
+{
+    let mut place = rows.first_place(u);
+    for v in rows.row(u) {
+        if visit.wants(*v) {
+            visit.touch(state, u, place, *v);
+        }
+        place += 1;
+    }
+}
+
 /// Visits each wanted place of `u` in order, and notes the targets where the answer is true, behind what was noted
 /// before. Linear in the degree of `u`.
 pub fn push_row<V: Visit>(
@@ -56,6 +73,7 @@ pub fn push_row<V: Visit>(
     ensures same { IsSame V.home V.is_root V.out state.old state.new }
     ensures kept { (s : Step) → V.can_visit visit.now s state.old → V.can_visit visit.now s state.new }
 {
+    touch_row(rows, visit, u, state);
     let mut place = rows.first_place(u);
     for v in rows.row(u) {
         push_place(visit, u, place, *v, state, noted)?;

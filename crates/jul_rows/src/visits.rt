@@ -33,6 +33,11 @@ pub trait Visit {
 
         ensures { result ≡ wanted self.now v };
 
+    /// Reads ahead what the visit of the place from `u` to `v` will read, so that a cache has it then. It changes nothing.
+    fn touch(&self, state: &Self::State, u: u32, place: u32, v: u32)
+        requires { can_visit self.now (step u place v) state.now }
+    {}
+
     /// Visits the place from `u` to `v`, and answers whether `v` is to be noted.
     fn visit(&self, state: &mut Self::State, u: u32, place: u32, v: u32) -> bool
         requires { can_visit self.now (step u place v) state.old }

@@ -2,7 +2,7 @@
 //!
 //! Word 0 belongs to the table: splits and joins load it. The word of vertex `v` is word `v + 1`.
 ghost use Rattle.std.specs.Prelude.{◌≡◌, ℕ, ◌+◌, ◌<◌, ◌≤◌, List, [], ◌∷◌, true, false, length, drop, IfOk};
-ghost use Rattle.jul_words.specs.Seats.{IsSeatOf, IsAlone, rooted, named, beside, lent, joined};
+ghost use Rattle.jul_words.specs.Seats.{IsSeatOf, IsWord, IsAlone, rooted, named, beside, lent, joined};
 ghost use Rattle.jul_words.specs.Views.{lives, spent};
 ghost use Rattle.jul_words.specs.Ruled.{Ruled, Looks, IsNothing, InAnyTable};
 ghost use Rattle.jul_words.specs.Keys.{home_by};
@@ -147,6 +147,17 @@ impl<P: Meaning> Words<P> {
             seat: other,
             marker: PhantomData,
         }
+    }
+
+    /// Reads the word of `v` ahead, so that a cache has it when a step needs it. It tells nothing.
+    #[inline]
+    pub fn touch(&self, seat: &WordSeat<P>, v: u32)
+        requires seat { IsSeatOf self.now seat.now }
+        requires word { IsWord seat.now v }
+    {
+        // The seat's own fields say how many words its table has.
+        let _ = &seat.seat;
+        let _ = self.table.shared.peek(v as usize + 1);
     }
 
     /// The other seat's log follows that of the root, and one seat fewer is out.
