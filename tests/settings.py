@@ -57,7 +57,7 @@ CROWDED = {b"cover": sets_pairs, b"kcore": leaves_pairs, b"wbfs": layered_pairs,
 
 def crowded_pairs(rng, task):
     """The number of vertices and the pairs of a crowd."""
-    return CROWDED[task](rng, rng.choice(PLACES), rng.choice([50, 200, 500]))
+    return CROWDED[task](rng, rng.choice(PLACES), rng.choice([50, 250, 500]))
 
 
 def random_list(rng, n):
