@@ -21,7 +21,7 @@ use Rattle.jul_subset.proofs.IncreasingLaws.{length_below}
 use Rattle.jul_count.specs.Counts.{reaching, AreApart, CountEach, AreCounts, AreNotedCounts}
 use Rattle.jul_count.specs.Counts.{counted as vertices_of}
 use Rattle.jul_count.specs.Adds.{add_count, add_weight, AreZero, CanCount, HasCounted}
-use Rattle.jul_count.specs.Counting.{AddedAll, HasTouched, word_in, drained_each}
+use Rattle.jul_count.specs.Counting.{AddedAll, HasAddedRound, word_in, drained_each}
 use Rattle.jul_count.proofs.ReachLaws.{reaching-le}
 use Rattle.jul_count.proofs.AddingLaws.{adds_reach, counts_held, held_counts}
 use Rattle.jul_count.proofs.DrainLaws.{after, adds_after, drained_out, drained_in, no_weight, all_are_drains, increasing_apart}
@@ -77,7 +77,7 @@ few_members g members is =
 
 -- what the root learns of its log doesn't change it
 pub once_learnt : (g : RawGraph) (members : List ℕ) (old learnt new again : Seat) (noted : List ℕ) → learnt ≡ old → again ≡ new → AreTallies learnt.home learnt.log →
-    AddedAll g members learnt new noted → AreTallies again.home again.log → HasTouched g members old again noted
+    AddedAll g members learnt new noted → AreTallies again.home again.log → HasAddedRound g members old again noted
 once_learnt g members old learnt new again noted same same' settled added settled' = record {
   added = subst (λ (s : Seat). AddedAll g members s again noted) same (subst (λ (s : Seat). AddedAll g members learnt s noted) (sym same') added);
   before = subst (λ (s : Seat). AreTallies s.home s.log) same settled;
@@ -99,7 +99,7 @@ all_apart (x ∷ xs) once =
     (all_apart xs (λ v held. omega (arith, once v (Contains-cons x xs v held), again v)))
 
 module _ (g : RawGraph) (lawful : IsLawful g) (members : List ℕ) (table : List ℕ) (old mid : Seat) (noted : List ℕ)
-    (few : length members ≤ 2 ^ 24) (can : CanCount (vertices g) table old) (touched : HasTouched g members old mid noted) where
+    (few : length members ≤ 2 ^ 24) (can : CanCount (vertices g) table old) (touched : HasAddedRound g members old mid noted) where
   added : AddedAll g members old mid noted
   added = touched.added
 
@@ -216,7 +216,7 @@ pub record IsCountedOut (g : RawGraph) (members : List ℕ) (old mid : Seat) (id
   pub zero_is : AreZero (after mid ids)
 
 module _ (g : RawGraph) (lawful : IsLawful g) (members : List ℕ) (is : IsSubset (record { n = vertices g; members = members; dense = false })) (table : List ℕ) (old mid : Seat) (noted : List ℕ)
-    (can : CanCount (vertices g) table old) (touched : HasTouched g members old mid noted) where
+    (can : CanCount (vertices g) table old) (touched : HasAddedRound g members old mid noted) where
   -- of a list with the noted vertices and no other, none twice
   counted_apart : (ids : List ℕ) → AreApart ids → ((v : ℕ) → Contains ids v ↔ Contains noted v) → IsCountedOut g members old mid ids
   counted_apart ids apart as_noted =

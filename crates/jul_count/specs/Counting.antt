@@ -48,7 +48,7 @@ pub record AddedAll (g : RawGraph) (members : List ℕ) (old new : Seat) (noted 
   pub noted_are : (v : ℕ) → count_by (λ x. x == v) noted ≡ weigh (is_first v) gained
 
 -- the same, and before and after the root knows each word by the log alone
-pub record HasTouched (g : RawGraph) (members : List ℕ) (old new : Seat) (noted : List ℕ) : Type 0 where
+pub record HasAddedRound (g : RawGraph) (members : List ℕ) (old new : Seat) (noted : List ℕ) : Type 0 where
   pub added : AddedAll g members old new noted
   pub before : AreTallies old.home old.log
   pub after : AreTallies new.home new.log

@@ -8,7 +8,13 @@ ghost use Rattle.jul_count.specs.Counting.{word_in, drained_each};
 use jul_words::{CountSeat, CountWords};
 use std::alloc::AllocError;
 
+/// So many words are read ahead of their drains.
+const AHEAD: usize = 64;
+
 /// Drains the words of these vertices one by one, and lists each with what it was, in place of what `list` held.
+///
+/// A drain is a locked step, which waits for all reads before it, so that one drain after another waits for its word alone.
+/// The words of a block are therefore read ahead.
 pub(crate) fn drain_each(
     counts: &CountWords,
     seat: &mut CountSeat,
@@ -30,10 +36,23 @@ pub(crate) fn drain_each(
     }) }
 {
     list.clear();
-    for id in ids {
+    for (at, id) in ids.iter().enumerate() {
+        if at % AHEAD == 0 {
+            touch_block(counts, seat, ids, at);
+        }
         list.push((*id, counts.drain(seat, *id)))?;
     }
     Ok(())
+}
+
+/// Reads the words of the vertices from `at` on ahead, as many as are in a block.
+fn touch_block(counts: &CountWords, seat: &CountSeat, ids: &[u32], at: usize)
+    requires table { IsSeatOf counts.now seat.now }
+    requires within { All (λ v. v < length seat.now.home.starts) ids.now }
+{
+    for k in at..ids.len().min(at.saturating_add(AHEAD)) {
+        counts.touch(seat, ids[k]);
+    }
 }
 
 /// The root with none out learns what its log says of the words. Three loads.

@@ -4,7 +4,7 @@ ghost use Rattle.jul_base.specs.Graph.{vertices, IsLawful};
 ghost use Rattle.jul_subset.specs.Subsets.{IsSubset};
 ghost use Rattle.jul_count.specs.Counts.{AreCounts};
 ghost use Rattle.jul_count.specs.Adds.{CanCount, AreZero, HasCounted};
-ghost use Rattle.jul_count.specs.Counting.{HasTouched};
+ghost use Rattle.jul_count.specs.Counting.{HasAddedRound};
 
 use crate::adding::add_places;
 use crate::draining::{drain_each, learn};
@@ -69,7 +69,7 @@ fn count_list<R: Threads + Sync, G: Gate>(
     ensures zero { IfOk result (λ r. AreZero r.1) }
 {
     let mut noted = Vec::new(alloc);
-    let mut seat = touch(rt, alloc, team, rows, members, counts, seat, &mut noted)?;
+    let mut seat = add_round(rt, alloc, team, rows, members, counts, seat, &mut noted)?;
     let touched = VertexSubset::from_unordered(alloc, rows.n(), noted)?;
     let Some(ids) = touched.as_slice() else {
         unreachable!()
@@ -80,7 +80,7 @@ fn count_list<R: Threads + Sync, G: Gate>(
 }
 
 /// The adds for the places of an increasing list of vertices. The root learns what the words are before and after.
-pub(crate) fn touch<R: Threads + Sync, G: Gate>(
+pub(crate) fn add_round<R: Threads + Sync, G: Gate>(
     rt: &R,
     alloc: Global,
     team: &Team<'_, G>,
@@ -94,7 +94,7 @@ pub(crate) fn touch<R: Threads + Sync, G: Gate>(
     requires members { IsSubset (record { n = vertices rows.now; members = members.now; dense = false }) }
     requires words { CanCount (vertices rows.now) counts.now seat }
 
-    ensures touched { IfOk result (λ r. HasTouched rows.now members.now seat r noted.new.items) }
+    ensures added { IfOk result (λ r. HasAddedRound rows.now members.now seat r noted.new.items) }
 {
     let mut seat = seat;
     learn(counts, &mut seat);

@@ -6,7 +6,7 @@ ghost use Rattle.jul_count.specs.Counts.{AreNotedCounts};
 ghost use Rattle.jul_count.specs.Adds.{CanCount, AreZero, HasCounted};
 
 use crate::draining::drain_each;
-use crate::edge_counts::touch;
+use crate::edge_counts::add_round;
 use jul_base::Gate;
 use jul_pool::Team;
 use jul_rows::Rows;
@@ -42,7 +42,7 @@ pub fn edge_counts_noted<R: Threads + Sync, G: Gate>(
 {
     // With the count comes what is true of every graph: it is lawful.
     prove!(rows.n() <= u32::MAX);
-    let mut seat = touch(rt, alloc, team, rows, members, counts, seat, noted)?;
+    let mut seat = add_round(rt, alloc, team, rows, members, counts, seat, noted)?;
     drain_each(counts, &mut seat, noted.as_slice(), list)?;
     Ok(seat)
 }
