@@ -31,7 +31,13 @@ impl<'a> VertexFn for Offer<'a> {
 
     fn apply(&self, hand: &mut MinHand<'a>, s: u32) -> bool {
         let number = self.base + u64::from(s);
-        for e in pack_of(self.packs, s) {
+        let pack = pack_of(self.packs, s);
+
+        // Each lowering waits for all reads before it, so the words are read ahead, many at a time.
+        for read in pack {
+            hand.words.touch(&hand.seat, *read);
+        }
+        for e in pack {
             let _ = hand.words.lower(&mut hand.seat, *e, number);
         }
         false

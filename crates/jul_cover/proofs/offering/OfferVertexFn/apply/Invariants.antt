@@ -3,4 +3,4 @@ use Rattle.jul_cover.specs.Offers.{HasLowered}
 use Rattle.jul_cover.proofs.offering.OfferVertexFn.apply.Given as goal
 
 abbrev pub invariant-loop-e : goal.invariant-loop-e
-invariant-loop-e l = HasLowered l.number (take l.e-index l.e-items) l.fn.hand.seat l.hand.seat
+invariant-loop-e l = HasLowered l.number (take l.e-index l.pack) l.fn.hand.seat l.hand.seat
