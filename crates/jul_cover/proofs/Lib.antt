@@ -20,5 +20,6 @@ pub mod KeepingLaws
 pub mod CandidateLaws
 pub mod KeptTurnLaws
 pub mod LeavingLaws
+pub mod KeptDrawLaws
 pub mod MoveTurnLaws
 pub mod EngineLaws

@@ -13,9 +13,11 @@ ghost use Rattle.jul_cover.specs.CoverBounds.{IsSmallCover};
 ghost use Rattle.jul_cover.specs.CoverDraws.{HaveDraws};
 ghost use Rattle.jul_cover.specs.CoverMoves.{AreSizes};
 
+use crate::columns::Columns;
 use crate::packing::packed_sets;
 use crate::rounds::cover_rounds;
 use crate::sizes::first_places;
+use crate::tables::Tables;
 use crate::turns::Standing;
 use jul_base::{Column, Cover, Gate, NONE};
 use jul_bucket::{Buckets, Order};
@@ -82,9 +84,11 @@ pub fn cover<R: Threads + Sync, G: Gate>(
     ensures owner_seat { IfOk result (λ r. IsAlone r.owner_seat × (r.owner_seat.home ≡ owner_seat.home)) }
 {
     let n = sets.n() as usize;
-    let mut round = vec![in alloc; NONE; n]?;
-    let mut by = vec![in alloc; NONE; n]?;
-    let mut marks = vec![in alloc; true; n]?;
+    let round = vec![in alloc; NONE; n]?;
+    let by = vec![in alloc; NONE; n]?;
+    let marks = vec![in alloc; true; n]?;
+    let mut columns = Columns { round, by, marks };
+    let tables = Tables { bids, owners };
     let mut packs = packed_sets(alloc, sets)?;
     let at = Standing {
         round: 0,
@@ -97,18 +101,15 @@ pub fn cover<R: Threads + Sync, G: Gate>(
         team,
         sets,
         &mut packs,
-        bids,
-        owners,
+        &tables,
         at,
-        round.as_mut_slice(),
-        by.as_mut_slice(),
-        marks.as_mut_slice(),
+        &mut columns,
         buckets,
     )?;
     Ok(CoverOut {
         cover: Cover {
-            round: Column::from_vec(round),
-            by: Column::from_vec(by),
+            round: Column::from_vec(columns.round),
+            by: Column::from_vec(columns.by),
         },
         bid_seat: end.bids,
         owner_seat: end.owners,

@@ -13,11 +13,13 @@ ghost use Rattle.jul_cover.specs.Keeping.{AreWithin, winners_of};
 ghost use Rattle.jul_cover.specs.KeptTurns.{AreAllOpen, AreRight, HasBid, HasKept};
 
 use crate::choosing::{active_sets, work_of};
+use crate::columns::Columns;
 use crate::moving::moves_from;
 use crate::offering::offer_all;
 use crate::packed_sets::PackedSets;
 use crate::packing::pack_each;
 use crate::sizes::base_of;
+use crate::tables::Tables;
 use crate::touching::touched_by;
 use crate::turns::{Standing, give, round_after};
 use crate::winning::{winners_among, winning_sets};
@@ -58,34 +60,34 @@ pub(crate) fn take_kept_turn<R: Threads + Sync, G: Gate>(
     holders: &InRows,
     watched: Watched,
     bucket: u64,
-    bids: &MinWords,
-    owners: &MinWords,
+    tables: &Tables<'_, '_>,
     at: Standing,
-    round: &mut [u64],
-    by: &mut [u64],
-    marks: &mut [bool],
+    columns: &mut Columns,
     buckets: &mut Buckets,
 ) -> Result<Kept, AllocError>
-    requires can { CanTurn bids.now owners.now bucket (ids_at buckets.old.places bucket) packs.old round.old by.old
+    requires can { CanTurn tables.now.bids.now tables.now.owners.now bucket (ids_at buckets.old.places bucket)
+        packs.old columns.old.round.items columns.old.by.items
         (record { round = at.round; bids = at.bids; owners = at.owners }) (with_emptied buckets.old bucket) }
-    requires open_sets { AreAllOpen by.old packs.old }
+    requires open_sets { AreAllOpen columns.old.by.items packs.old }
     requires within { AreWithin packs.old.n holders.now }
     requires increasing { IsStrictlyIncreasing watched.candidates.items }
     requires in_range { All (λ s. s < packs.old.n) watched.candidates.items }
-    requires right { AreRight buckets.old.places bucket (pack_at packs.old) round.old watched.changed.items }
+    requires right { AreRight buckets.old.places bucket (pack_at packs.old) columns.old.round.items
+        watched.changed.items }
     requires changed_in { All (λ s. s < packs.old.n) watched.changed.items }
-    requires marks { AreOpen marks.old by.old }
+    requires marks { AreOpen columns.old.marks.items columns.old.by.items }
 
     ensures kept { IfOk result (λ r. HasKept holders.now bucket (ids_at buckets.old.places bucket)
-        watched.candidates.items packs.old packs.new round.old by.old round.new by.new
+        watched.candidates.items packs.old packs.new
+        columns.old.round.items columns.old.by.items columns.new.round.items columns.new.by.items
         (record { round = at.round; bids = at.bids; owners = at.owners })
         (record { round = r.at.round; bids = r.at.bids; owners = r.at.owners })
         (with_emptied buckets.old bucket) buckets.new r.watched.candidates.items) }
-    ensures marks { IfOk result (λ _. AreOpen marks.new by.new) }
+    ensures marks { IfOk result (λ _. AreOpen columns.new.marks.items columns.new.by.items) }
     ensures increasing { IfOk result (λ r. IsStrictlyIncreasing r.watched.candidates.items) }
     ensures in_range { IfOk result (λ r. All (λ s. s < packs.new.n) r.watched.candidates.items) }
     ensures right { IfOk result (λ r.
-        AreRight buckets.new.places bucket (pack_at packs.new) round.new r.watched.changed.items) }
+        AreRight buckets.new.places bucket (pack_at packs.new) columns.new.round.items r.watched.changed.items) }
     ensures changed_in { IfOk result (λ r. All (λ s. s < packs.new.n) r.watched.changed.items) }
 {
     let Standing {
@@ -110,16 +112,24 @@ pub(crate) fn take_kept_turn<R: Threads + Sync, G: Gate>(
         chosen.as_slice(),
         bucket,
         t,
-        bids,
+        tables.bids,
         bid_seat,
     )?;
     listed.extend_from_slice(chosen.as_slice())?;
     let owner_seat = give(
-        rt, alloc, team, packs, chosen, t, owners, owner_seat, round, by, marks,
+        rt,
+        alloc,
+        team,
+        packs,
+        chosen,
+        t,
+        tables.owners,
+        owner_seat,
+        columns,
     )?;
-    let moves = moves_from(alloc, listed.as_slice(), bucket, packs, round, buckets)?;
+    let moves = moves_from(alloc, listed.as_slice(), bucket, packs, columns, buckets)?;
     buckets.update_buckets(moves.as_slice())?;
-    let candidates = renewed(alloc, packs, holders, touched.as_slice(), bucket, marks, by)?;
+    let candidates = renewed(alloc, packs, holders, touched.as_slice(), bucket, columns)?;
     Ok(Kept {
         at: Standing {
             round: next,
@@ -184,16 +194,15 @@ fn renewed(
     holders: &InRows,
     touched: &[u32],
     bucket: u64,
-    marks: &[bool],
-    by: &[u64],
+    columns: &Columns,
 ) -> Result<Vec<u32>, AllocError>
     requires packed { ArePacked packs.old }
     requires within { AreWithin packs.old.n holders.now }
     requires in_range { All (λ s. s < packs.old.n) touched.now }
-    requires marks { AreOpen marks.now by.now }
-    requires by { length by.now ≡ packs.old.n }
+    requires marks { AreOpen columns.now.marks.items columns.now.by.items }
+    requires by { length columns.now.by.items ≡ packs.old.n }
 
-    ensures packed { IfOk result (λ _. HasPacked by.now touched.now packs.old packs.new) }
+    ensures packed { IfOk result (λ _. HasPacked columns.now.by.items touched.now packs.old packs.new) }
     ensures winners { IfOk result (λ r. (s : ℕ) → Contains r.items s
         ↔ Contains (winners_of (pack_at packs.new) holders.now bucket
         (active_of (pack_at packs.old) bucket touched.now)) s) }
@@ -201,7 +210,7 @@ fn renewed(
     ensures in_range { IfOk result (λ r. All (λ s. s < packs.new.n) r.items) }
 {
     let large = active_sets(alloc, packs, touched, bucket)?;
-    pack_each(packs, touched, marks, by);
+    pack_each(packs, touched, columns);
     let winners = winners_among(alloc, packs, holders, large.as_slice(), bucket)?;
     let candidates = ordered(alloc, packs.n, winners)?;
     Ok(candidates)

@@ -7,15 +7,16 @@ ghost use Rattle.jul_cover.specs.CoverWork.{IsCovering};
 ghost use Rattle.jul_cover.specs.Keeping.{AreHolders};
 ghost use Rattle.jul_cover.specs.KeptTurns.{last_drawn, sets_for};
 
+use crate::columns::Columns;
 use crate::keeping::{Kept, Watched, take_kept_turn};
 use crate::packed_sets::PackedSets;
 use crate::packing::pack_each;
+use crate::tables::Tables;
 use crate::turns::Standing;
 use jul_base::Gate;
 use jul_bucket::Buckets;
 use jul_pool::Team;
 use jul_rows::{InRows, SetRows};
-use jul_words::MinWords;
 use std::alloc::{AllocError, Global};
 use std::thread::Threads;
 
@@ -28,28 +29,28 @@ pub(crate) fn kept_rounds<R: Threads + Sync, G: Gate>(
     sets: &SetRows,
     holders: &InRows,
     packs: &mut PackedSets,
-    bids: &MinWords,
-    owners: &MinWords,
+    tables: &Tables<'_, '_>,
     at: Standing,
-    round: &mut [u64],
-    by: &mut [u64],
-    marks: &mut [bool],
+    columns: &mut Columns,
     buckets: &mut Buckets,
 ) -> Result<Standing, AllocError>
-    requires covering { IsCovering sets.now bids.now owners.now at.bids.home at.owners.home packs.old round.old by.old
+    requires covering { IsCovering sets.now tables.now.bids.now tables.now.owners.now at.bids.home at.owners.home
+        packs.old columns.old.round.items columns.old.by.items
         (record { round = at.round; bids = at.bids; owners = at.owners }) buckets.old }
     requires holders { AreHolders sets.now holders.now }
-    requires marks { AreOpen marks.old by.old }
+    requires marks { AreOpen columns.old.marks.items columns.old.by.items }
 
-    ensures covering { IfOk result (λ r. IsCovering sets.now bids.now owners.now at.bids.home at.owners.home
-        packs.new round.new by.new (record { round = r.round; bids = r.bids; owners = r.owners }) buckets.new) }
+    ensures covering { IfOk result (λ r.
+        IsCovering sets.now tables.now.bids.now tables.now.owners.now at.bids.home at.owners.home
+        packs.new columns.new.round.items columns.new.by.items
+        (record { round = r.round; bids = r.bids; owners = r.owners }) buckets.new) }
     ensures none_left { IfOk result (λ _. AllNone buckets.new.places) }
 {
     prove!(sets.n() <= jul_base::MAX_N);
     let mut at = at;
     let mut last = 0;
     let every = every_set(alloc, sets.n())?;
-    pack_each(packs, every.as_slice(), marks, by);
+    pack_each(packs, every.as_slice(), columns);
     let mut watched = all_of(alloc, every)?;
     'rounds: loop {
         let Some(bucket) = buckets.next_bucket_in_place()? else {
@@ -57,8 +58,7 @@ pub(crate) fn kept_rounds<R: Threads + Sync, G: Gate>(
         };
         let now = watched_in(alloc, watched, last, bucket, buckets)?;
         let kept = take_kept_turn(
-            rt, alloc, team, packs, holders, now, bucket, bids, owners, at, round, by, marks,
-            buckets,
+            rt, alloc, team, packs, holders, now, bucket, tables, at, columns, buckets,
         )?;
         let Kept {
             at: next,

@@ -8,6 +8,7 @@
 #![tactic(auto)]
 
 mod choosing;
+mod columns;
 mod engine;
 mod holding;
 mod keeping;
@@ -18,6 +19,7 @@ mod packed_sets;
 mod packing;
 mod rounds;
 mod sizes;
+mod tables;
 mod taking;
 mod touching;
 mod turns;

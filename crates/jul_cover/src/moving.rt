@@ -6,6 +6,7 @@ ghost use Rattle.jul_cover.specs.PackedSets.{pack_at, ArePacked};
 ghost use Rattle.jul_cover.specs.CoverMoves.{next_place, move_of, moves_of, CanMove};
 ghost use Rattle.jul_cover.specs.KeptTurns.{leaving_of};
 
+use crate::columns::Columns;
 use crate::packed_sets::PackedSets;
 use crate::packing::size_of;
 use crate::sizes::{STEPS_FOR_A_SHARE, place_of};
@@ -23,7 +24,7 @@ struct MoveJob<'a> {
     drawn: &'a [u32],
     size: u32,
     packs: &'a PackedSets,
-    round: &'a [u64],
+    columns: &'a Columns,
     buckets: &'a Buckets,
 }
 
@@ -33,15 +34,16 @@ impl<'a> Job for MoveJob<'a> {
     type Out = Vec<(u32, u64)>;
 
     ghost can_run = { λ j chunk _. (chunk * j.size < length j.drawn.now) × ArePacked j.packs.now
-        × (length j.round.now ≡ j.packs.now.n) × (length j.buckets.now.places ≡ j.packs.now.n)
-        × All (CanMove j.buckets.now j.packs.now.n (pack_at j.packs.now) j.round.now) j.drawn.now };
+        × (length j.columns.now.round.items ≡ j.packs.now.n) × (length j.buckets.now.places ≡ j.packs.now.n)
+        × All (CanMove j.buckets.now j.packs.now.n (pack_at j.packs.now) j.columns.now.round.items) j.drawn.now };
 
     ghost gives = { λ j chunk out added.
-        (out.items ≡ moves_of (pack_at j.packs.now) j.round.now (chunk_of j.drawn.now j.size chunk)) × (added ≡ []) };
+        (out.items ≡ moves_of (pack_at j.packs.now) j.columns.now.round.items
+        (chunk_of j.drawn.now j.size chunk)) × (added ≡ []) };
 
     fn run(&self, chunk: u32, _token: &mut Free) -> Result<Vec<(u32, u64)>, AllocError> {
         let group = chunk_at(self.drawn, self.size as usize, chunk as usize);
-        moves_among(self.alloc, group, self.packs, self.round, self.buckets)
+        moves_among(self.alloc, group, self.packs, self.columns, self.buckets)
     }
 }
 
@@ -50,19 +52,20 @@ fn moves_among(
     alloc: Global,
     group: &[u32],
     packs: &PackedSets,
-    round: &[u64],
+    columns: &Columns,
     buckets: &Buckets,
 ) -> Result<Vec<(u32, u64)>, AllocError>
     requires packed { ArePacked packs.now }
-    requires round { length round.now ≡ packs.now.n }
+    requires round { length columns.now.round.items ≡ packs.now.n }
     requires places { length buckets.now.places ≡ packs.now.n }
-    requires can { All (CanMove buckets.now packs.now.n (pack_at packs.now) round.now) group.now }
+    requires can { All (CanMove buckets.now packs.now.n (pack_at packs.now) columns.now.round.items) group.now }
 
-    ensures { IfOk result (λ moves. moves.items ≡ moves_of (pack_at packs.now) round.now group.now) }
+    ensures { IfOk result (λ moves.
+        moves.items ≡ moves_of (pack_at packs.now) columns.now.round.items group.now) }
 {
     let mut moves = Vec::with_capacity(alloc, group.len())?;
     for s in group {
-        let next = next_of(packs, round, *s);
+        let next = next_of(packs, columns, *s);
         match buckets.get_bucket(buckets.place(*s), next) {
             Dest::Null => {}
             Dest::Open(_) | Dest::Overflow => moves.push((*s, next))?,
@@ -72,14 +75,14 @@ fn moves_among(
 }
 
 /// The bucket of what is left of a set, `NONE` where nothing is left or the set was chosen.
-fn next_of(packs: &PackedSets, round: &[u64], s: u32) -> u64
+fn next_of(packs: &PackedSets, columns: &Columns, s: u32) -> u64
     requires packed { ArePacked packs.now }
-    requires round { length round.now ≡ packs.now.n }
+    requires round { length columns.now.round.items ≡ packs.now.n }
     requires in_range { s < packs.now.n }
 
-    ensures { result ≡ next_place (pack_at packs.now) round.now s }
+    ensures { result ≡ next_place (pack_at packs.now) columns.now.round.items s }
 {
-    if round[s as usize] == NONE {
+    if columns.round[s as usize] == NONE {
         place_of(size_of(packs, s))
     } else {
         NONE
@@ -95,20 +98,21 @@ pub(crate) fn moves_after<R: Threads + Sync, G: Gate>(
     team: &Team<'_, G>,
     drawn: &[u32],
     packs: &PackedSets,
-    round: &[u64],
+    columns: &Columns,
     buckets: &Buckets,
 ) -> Result<Vec<(u32, u64)>, AllocError>
     requires few { length drawn.now < 2 ^ 32 }
     requires packed { ArePacked packs.now }
-    requires round { length round.now ≡ packs.now.n }
+    requires round { length columns.now.round.items ≡ packs.now.n }
     requires places { length buckets.now.places ≡ packs.now.n }
-    requires can { All (CanMove buckets.now packs.now.n (pack_at packs.now) round.now) drawn.now }
+    requires can { All (CanMove buckets.now packs.now.n (pack_at packs.now) columns.now.round.items) drawn.now }
 
-    ensures { IfOk result (λ moves. moves.items ≡ moves_of (pack_at packs.now) round.now drawn.now) }
+    ensures { IfOk result (λ moves.
+        moves.items ≡ moves_of (pack_at packs.now) columns.now.round.items drawn.now) }
 {
     let crew = team.for_work(drawn.len() as u64 / STEPS_FOR_A_SHARE);
     if crew.workers == 1 {
-        return moves_among(alloc, drawn, packs, round, buckets);
+        return moves_among(alloc, drawn, packs, columns, buckets);
     }
     let chunks = drawn.len().div_ceil(team.chunk as usize) as u32;
     let job = MoveJob {
@@ -116,7 +120,7 @@ pub(crate) fn moves_after<R: Threads + Sync, G: Gate>(
         drawn,
         size: team.chunk,
         packs,
-        round,
+        columns,
         buckets,
     };
     let done = run_all(rt, alloc, &crew, chunks, &job, Free::root())?;
@@ -130,21 +134,22 @@ pub(crate) fn moves_from(
     listed: &[u32],
     bucket: u64,
     packs: &PackedSets,
-    round: &[u64],
+    columns: &Columns,
     buckets: &Buckets,
 ) -> Result<Vec<(u32, u64)>, AllocError>
     requires packed { ArePacked packs.now }
-    requires round { length round.now ≡ packs.now.n }
+    requires round { length columns.now.round.items ≡ packs.now.n }
     requires places { length buckets.now.places ≡ packs.now.n }
     requires in_range { All (λ s. s < packs.now.n) listed.now }
 
     ensures { IfOk result (λ moves.
-        moves.items ≡ leaving_of (pack_at packs.now) round.now buckets.now.places bucket listed.now) }
+        moves.items ≡ leaving_of (pack_at packs.now) columns.now.round.items
+        buckets.now.places bucket listed.now) }
 {
     let mut moves = Vec::new(alloc);
     for s in listed {
         if buckets.place(*s) == bucket {
-            let next = next_of(packs, round, *s);
+            let next = next_of(packs, columns, *s);
             if next != bucket {
                 moves.push((*s, next))?;
             }

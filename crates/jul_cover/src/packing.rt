@@ -5,6 +5,7 @@ ghost use Rattle.jul_base.specs.declared.limits.TheConstants.{MAX_N};
 ghost use Rattle.jul_base.specs.CoverRounds.{set_at};
 ghost use Rattle.jul_cover.specs.PackedSets.{pack_at, is_open, ArePacked, AreOpen, HasPacked};
 
+use crate::columns::Columns;
 use crate::packed_sets::PackedSets;
 use jul_rows::SetRows;
 use std::alloc::{AllocError, Global};
@@ -61,14 +62,16 @@ pub(crate) fn size_of(p: &PackedSets, s: u32) -> usize
 }
 
 /// Packs each of these sets down to the elements that nothing covers, by their marks.
-pub(crate) fn pack_each(p: &mut PackedSets, listed: &[u32], marks: &[bool], by: &[u64])
+pub(crate) fn pack_each(p: &mut PackedSets, listed: &[u32], columns: &Columns)
     requires packed { ArePacked p.old }
-    requires marks { AreOpen marks.now by.now }
-    requires by { length by.now ≡ p.old.n }
+    requires marks { AreOpen columns.now.marks.items columns.now.by.items }
+    requires by { length columns.now.by.items ≡ p.old.n }
     requires in_range { All (λ s. s < p.old.n) listed.now }
 
-    ensures { HasPacked by.now listed.now p.old p.new }
+    ensures { HasPacked columns.now.by.items listed.now p.old p.new }
 {
+    let marks = columns.marks.as_slice();
+    let by = columns.by.as_slice();
     for s in listed {
         pack_one(p, *s, marks, by);
     }

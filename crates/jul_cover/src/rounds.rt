@@ -5,15 +5,16 @@ ghost use Rattle.jul_bucket.specs.Places.{AllNone};
 ghost use Rattle.jul_cover.specs.PackedSets.{AreOpen};
 ghost use Rattle.jul_cover.specs.CoverWork.{IsCovering};
 
+use crate::columns::Columns;
 use crate::holding::holders_of;
 use crate::kept_rounds::kept_rounds;
 use crate::packed_sets::PackedSets;
+use crate::tables::Tables;
 use crate::turns::{Standing, take_turn};
 use jul_base::{Gate, NONE};
 use jul_bucket::Buckets;
 use jul_pool::Team;
 use jul_rows::SetRows;
-use jul_words::MinWords;
 use std::alloc::{AllocError, Global};
 use std::thread::Threads;
 
@@ -35,31 +36,31 @@ pub(crate) fn cover_rounds<R: Threads + Sync, G: Gate>(
     team: &Team<'_, G>,
     sets: &SetRows,
     packs: &mut PackedSets,
-    bids: &MinWords,
-    owners: &MinWords,
+    tables: &Tables<'_, '_>,
     at: Standing,
-    round: &mut [u64],
-    by: &mut [u64],
-    marks: &mut [bool],
+    columns: &mut Columns,
     buckets: &mut Buckets,
 ) -> Result<Standing, AllocError>
-    requires covering { IsCovering sets.now bids.now owners.now at.bids.home at.owners.home packs.old round.old by.old
+    requires covering { IsCovering sets.now tables.now.bids.now tables.now.owners.now at.bids.home at.owners.home
+        packs.old columns.old.round.items columns.old.by.items
         (record { round = at.round; bids = at.bids; owners = at.owners }) buckets.old }
-    requires marks { AreOpen marks.old by.old }
+    requires marks { AreOpen columns.old.marks.items columns.old.by.items }
 
-    ensures covering { IfOk result (λ r. IsCovering sets.now bids.now owners.now at.bids.home at.owners.home
-        packs.new round.new by.new (record { round = r.round; bids = r.bids; owners = r.owners }) buckets.new) }
+    ensures covering { IfOk result (λ r.
+        IsCovering sets.now tables.now.bids.now tables.now.owners.now at.bids.home at.owners.home
+        packs.new columns.new.round.items columns.new.by.items
+        (record { round = r.round; bids = r.bids; owners = r.owners }) buckets.new) }
     ensures none_left { IfOk result (λ _. AllNone buckets.new.places) }
 {
     let limit = TIMES_DRAWN_AGAIN * u64::from(sets.n());
     let first = bid_rounds(
-        rt, alloc, team, sets, packs, bids, owners, at, limit, round, by, marks, buckets,
+        rt, alloc, team, sets, packs, tables, at, limit, columns, buckets,
     )?;
     if first.is_done {
         return Ok(first.at);
     }
     let end = finish_rounds(
-        rt, alloc, team, sets, packs, bids, owners, first.at, round, by, marks, buckets,
+        rt, alloc, team, sets, packs, tables, first.at, columns, buckets,
     )?;
     Ok(end)
 }
@@ -72,30 +73,30 @@ fn finish_rounds<R: Threads + Sync, G: Gate>(
     team: &Team<'_, G>,
     sets: &SetRows,
     packs: &mut PackedSets,
-    bids: &MinWords,
-    owners: &MinWords,
+    tables: &Tables<'_, '_>,
     at: Standing,
-    round: &mut [u64],
-    by: &mut [u64],
-    marks: &mut [bool],
+    columns: &mut Columns,
     buckets: &mut Buckets,
 ) -> Result<Standing, AllocError>
-    requires covering { IsCovering sets.now bids.now owners.now at.bids.home at.owners.home packs.old round.old by.old
+    requires covering { IsCovering sets.now tables.now.bids.now tables.now.owners.now at.bids.home at.owners.home
+        packs.old columns.old.round.items columns.old.by.items
         (record { round = at.round; bids = at.bids; owners = at.owners }) buckets.old }
-    requires marks { AreOpen marks.old by.old }
+    requires marks { AreOpen columns.old.marks.items columns.old.by.items }
 
-    ensures covering { IfOk result (λ r. IsCovering sets.now bids.now owners.now at.bids.home at.owners.home
-        packs.new round.new by.new (record { round = r.round; bids = r.bids; owners = r.owners }) buckets.new) }
+    ensures covering { IfOk result (λ r.
+        IsCovering sets.now tables.now.bids.now tables.now.owners.now at.bids.home at.owners.home
+        packs.new columns.new.round.items columns.new.by.items
+        (record { round = r.round; bids = r.bids; owners = r.owners }) buckets.new) }
     ensures none_left { IfOk result (λ _. AllNone buckets.new.places) }
 {
     let Some(holders) = holders_of(alloc, sets)? else {
         let rest = bid_rounds(
-            rt, alloc, team, sets, packs, bids, owners, at, NONE, round, by, marks, buckets,
+            rt, alloc, team, sets, packs, tables, at, NONE, columns, buckets,
         )?;
         return Ok(rest.at);
     };
     kept_rounds(
-        rt, alloc, team, sets, &holders, packs, bids, owners, at, round, by, marks, buckets,
+        rt, alloc, team, sets, &holders, packs, tables, at, columns, buckets,
     )
 }
 
@@ -107,23 +108,22 @@ fn bid_rounds<R: Threads + Sync, G: Gate>(
     team: &Team<'_, G>,
     sets: &SetRows,
     packs: &mut PackedSets,
-    bids: &MinWords,
-    owners: &MinWords,
+    tables: &Tables<'_, '_>,
     at: Standing,
     limit: u64,
-    round: &mut [u64],
-    by: &mut [u64],
-    marks: &mut [bool],
+    columns: &mut Columns,
     buckets: &mut Buckets,
 ) -> Result<Stop, AllocError>
-    requires covering { IsCovering sets.now bids.now owners.now at.bids.home at.owners.home packs.old round.old by.old
+    requires covering { IsCovering sets.now tables.now.bids.now tables.now.owners.now at.bids.home at.owners.home
+        packs.old columns.old.round.items columns.old.by.items
         (record { round = at.round; bids = at.bids; owners = at.owners }) buckets.old }
-    requires marks { AreOpen marks.old by.old }
+    requires marks { AreOpen columns.old.marks.items columns.old.by.items }
 
-    ensures covering { IfOk result (λ r. IsCovering sets.now bids.now owners.now at.bids.home at.owners.home
-        packs.new round.new by.new (record { round = r.at.round; bids = r.at.bids; owners = r.at.owners })
-        buckets.new) }
-    ensures marks { IfOk result (λ _. AreOpen marks.new by.new) }
+    ensures covering { IfOk result (λ r.
+        IsCovering sets.now tables.now.bids.now tables.now.owners.now at.bids.home at.owners.home
+        packs.new columns.new.round.items columns.new.by.items
+        (record { round = r.at.round; bids = r.at.bids; owners = r.at.owners }) buckets.new) }
+    ensures marks { IfOk result (λ _. AreOpen columns.new.marks.items columns.new.by.items) }
     ensures none_left { IfOk result (λ r. r.is_done ≡ true → AllNone buckets.new.places) }
     ensures limited { IfOk result (λ r. r.is_done ≡ false → limit < NONE) }
 {
@@ -141,7 +141,7 @@ fn bid_rounds<R: Threads + Sync, G: Gate>(
         again = drawn_again(again, last, bucket, drawn.len());
         last = bucket;
         at = take_turn(
-            rt, alloc, team, packs, drawn, bucket, bids, owners, at, round, by, marks, buckets,
+            rt, alloc, team, packs, drawn, bucket, tables, at, columns, buckets,
         )?;
     }
 }

@@ -7,6 +7,7 @@ ghost use Rattle.jul_cover.specs.PackedSets.{pack_at, ArePacked, AreOpen};
 ghost use Rattle.jul_cover.specs.Offers.{IsRootOf};
 ghost use Rattle.jul_cover.specs.Columns.{AreWritten};
 
+use crate::columns::Columns;
 use crate::packed_sets::PackedSets;
 use crate::packing::pack_of;
 use jul_base::NONE;
@@ -20,49 +21,43 @@ pub(crate) fn take_chosen(
     t: u64,
     words: &MinWords,
     seat: &mut MinSeat,
-    round: &mut [u64],
-    by: &mut [u64],
-    marks: &mut [bool],
+    columns: &mut Columns,
 )
     requires packed { ArePacked packs.now }
     requires in_range { All (λ s. s < packs.now.n) chosen.now }
     requires root { IsRootOf packs.now.n words.now seat.old }
-    requires round { length round.old ≡ packs.now.n }
-    requires by { length by.old ≡ packs.now.n }
-    requires marks { AreOpen marks.old by.old }
+    requires round { length columns.old.round.items ≡ packs.now.n }
+    requires by { length columns.old.by.items ≡ packs.now.n }
+    requires marks { AreOpen columns.old.marks.items columns.old.by.items }
 
     ensures same { seat.new ≡ seat.old }
-    ensures round { AreWritten chosen.now (λ _. t) round.old round.new }
-    ensures by { AreWritten (flat_map (pack_at packs.now) chosen.now) (word_of seat.old) by.old by.new }
-    ensures marks { AreOpen marks.new by.new }
+    ensures round { AreWritten chosen.now (λ _. t) columns.old.round.items columns.new.round.items }
+    ensures by { AreWritten (flat_map (pack_at packs.now) chosen.now) (word_of seat.old)
+        columns.old.by.items columns.new.by.items }
+    ensures marks { AreOpen columns.new.marks.items columns.new.by.items }
 {
     for s in chosen {
-        round[*s as usize] = t;
-        take_words(pack_of(packs, *s), words, seat, by, marks);
+        columns.round[*s as usize] = t;
+        take_words(pack_of(packs, *s), words, seat, columns);
     }
 }
 
 /// Writes at each of these elements what its word has become, and whether that is `NONE`.
-fn take_words(
-    elements: &[u32],
-    words: &MinWords,
-    seat: &mut MinSeat,
-    by: &mut [u64],
-    marks: &mut [bool],
-)
+fn take_words(elements: &[u32], words: &MinWords, seat: &mut MinSeat, columns: &mut Columns)
     requires table { IsSeatOf words.now seat.old }
     requires alone { IsAlone seat.old }
     requires words { All (λ e. e < length seat.old.home.starts) elements.now }
-    requires by { All (λ e. e < length by.old) elements.now }
-    requires marks { AreOpen marks.old by.old }
+    requires by { All (λ e. e < length columns.old.by.items) elements.now }
+    requires marks { AreOpen columns.old.marks.items columns.old.by.items }
 
     ensures same { seat.new ≡ seat.old }
-    ensures by { AreWritten elements.now (word_of seat.old) by.old by.new }
-    ensures marks { AreOpen marks.new by.new }
+    ensures round { columns.new.round.items ≡ columns.old.round.items }
+    ensures by { AreWritten elements.now (word_of seat.old) columns.old.by.items columns.new.by.items }
+    ensures marks { AreOpen columns.new.marks.items columns.new.by.items }
 {
     for e in elements {
         let word = words.load(seat, *e);
-        by[*e as usize] = word;
-        marks[*e as usize] = word == NONE;
+        columns.by[*e as usize] = word;
+        columns.marks[*e as usize] = word == NONE;
     }
 }

@@ -12,11 +12,13 @@ ghost use Rattle.jul_cover.specs.Choosing.{chosen_of};
 ghost use Rattle.jul_cover.specs.CoverWork.{CanTurn, HasTurned};
 
 use crate::choosing::{active_sets, chosen_sets, work_of};
+use crate::columns::Columns;
 use crate::moving::moves_after;
 use crate::offering::offer_all;
 use crate::packed_sets::PackedSets;
 use crate::packing::pack_each;
 use crate::sizes::base_of;
+use crate::tables::Tables;
 use crate::taking::take_chosen;
 use jul_base::Gate;
 use jul_bucket::Buckets;
@@ -53,32 +55,41 @@ pub(crate) fn take_turn<R: Threads + Sync, G: Gate>(
     packs: &mut PackedSets,
     drawn: Vec<u32>,
     bucket: u64,
-    bids: &MinWords,
-    owners: &MinWords,
+    tables: &Tables<'_, '_>,
     at: Standing,
-    round: &mut [u64],
-    by: &mut [u64],
-    marks: &mut [bool],
+    columns: &mut Columns,
     buckets: &mut Buckets,
 ) -> Result<Standing, AllocError>
-    requires can { CanTurn bids.now owners.now bucket drawn.items packs.old round.old by.old
+    requires can { CanTurn tables.now.bids.now tables.now.owners.now bucket drawn.items
+        packs.old columns.old.round.items columns.old.by.items
         (record { round = at.round; bids = at.bids; owners = at.owners }) buckets.old }
-    requires marks { AreOpen marks.old by.old }
+    requires marks { AreOpen columns.old.marks.items columns.old.by.items }
 
-    ensures turned { IfOk result (λ r. HasTurned bucket drawn.items packs.old packs.new round.old by.old round.new by.new
+    ensures turned { IfOk result (λ r. HasTurned bucket drawn.items packs.old packs.new
+        columns.old.round.items columns.old.by.items columns.new.round.items columns.new.by.items
         (record { round = at.round; bids = at.bids; owners = at.owners })
         (record { round = r.round; bids = r.bids; owners = r.owners }) buckets.old buckets.new) }
-    ensures marks { IfOk result (λ _. AreOpen marks.new by.new) }
+    ensures marks { IfOk result (λ _. AreOpen columns.new.marks.items columns.new.by.items) }
 {
     let Standing {
         round: t,
         bids: bid_seat,
         owners: owner_seat,
     } = at;
-    pack_each(packs, drawn.as_slice(), marks, by);
+    pack_each(packs, drawn.as_slice(), columns);
     let active = active_sets(alloc, packs, drawn.as_slice(), bucket)?;
     let next = round_after(t, active.as_slice());
-    let chosen = choose(rt, alloc, team, packs, active, bucket, t, bids, bid_seat)?;
+    let chosen = choose(
+        rt,
+        alloc,
+        team,
+        packs,
+        active,
+        bucket,
+        t,
+        tables.bids,
+        bid_seat,
+    )?;
     let owner_seat = give(
         rt,
         alloc,
@@ -86,13 +97,11 @@ pub(crate) fn take_turn<R: Threads + Sync, G: Gate>(
         packs,
         chosen.sets,
         t,
-        owners,
+        tables.owners,
         owner_seat,
-        round,
-        by,
-        marks,
+        columns,
     )?;
-    let moves = moves_after(rt, alloc, team, drawn.as_slice(), packs, round, buckets)?;
+    let moves = moves_after(rt, alloc, team, drawn.as_slice(), packs, columns, buckets)?;
     buckets.update_buckets(moves.as_slice())?;
     Ok(Standing {
         round: next,
@@ -153,23 +162,23 @@ pub(crate) fn give<R: Threads + Sync, G: Gate>(
     t: u64,
     words: &MinWords,
     seat: MinSeat,
-    round: &mut [u64],
-    by: &mut [u64],
-    marks: &mut [bool],
+    columns: &mut Columns,
 ) -> Result<MinSeat, AllocError>
     requires packed { ArePacked packs.now }
     requires increasing { IsStrictlyIncreasing chosen.items }
     requires in_range { All (λ s. s < packs.now.n) chosen.items }
     requires root { IsRootOf packs.now.n words.now seat }
-    requires round { length round.old ≡ packs.now.n }
-    requires by { length by.old ≡ packs.now.n }
-    requires marks { AreOpen marks.old by.old }
+    requires round { length columns.old.round.items ≡ packs.now.n }
+    requires by { length columns.old.by.items ≡ packs.now.n }
+    requires marks { AreOpen columns.old.marks.items columns.old.by.items }
 
     ensures offered { IfOk result (λ r. HasOffered chosen.items (pack_at packs.now) 0 seat r) }
-    ensures round { IfOk result (λ _. AreWritten chosen.items (λ _. t) round.old round.new) }
+    ensures round { IfOk result (λ _.
+        AreWritten chosen.items (λ _. t) columns.old.round.items columns.new.round.items) }
     ensures by { IfOk result (λ r.
-        AreWritten (flat_map (pack_at packs.now) chosen.items) (word_of r) by.old by.new) }
-    ensures marks { IfOk result (λ _. AreOpen marks.new by.new) }
+        AreWritten (flat_map (pack_at packs.now) chosen.items) (word_of r)
+        columns.old.by.items columns.new.by.items) }
+    ensures marks { IfOk result (λ _. AreOpen columns.new.marks.items columns.new.by.items) }
 {
     let work = work_of(packs, chosen.as_slice());
     let members = VertexSubset::from_increasing(alloc, packs.n, chosen);
@@ -177,6 +186,6 @@ pub(crate) fn give<R: Threads + Sync, G: Gate>(
     let Some(chosen) = members.as_slice() else {
         unreachable!()
     };
-    take_chosen(packs, chosen, t, words, &mut seat, round, by, marks);
+    take_chosen(packs, chosen, t, words, &mut seat, columns);
     Ok(seat)
 }

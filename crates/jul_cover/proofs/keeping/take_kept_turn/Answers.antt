@@ -60,7 +60,7 @@ update_buckets-requires-clause-ids g c =
     (All-append (λ s. s < c.args.packs.now.n) c.args.watched.changed.items c.in_ok-chosen.chosen.items c.requires.changed_in
     (kept_in (is_winning (pack_at c.args.packs.now) c.args.holders.now c.args.bucket) c.args.packs.now.n c.args.packs.now.n c.args.watched.candidates.items c.as_slice.result.now c.in_ok-chosen.chosen.items
     c.requires.in_range c.as_slice.ensures.value c.in_ok-chosen.ensures refl)) in
-    leaving_all (pack_at c.args.packs.now) c.give.new.round c.args.buckets.now.places c.args.bucket (λ m. m.0 < length c.args.buckets.now.places) c.as_slice-6.result.now c.as_slice-7.result.now (c.as_slice-7.ensures.value ∙ c.in_ok-moves.ensures)
+    leaving_all (pack_at c.args.packs.now) c.give.new.columns.round.items c.args.buckets.now.places c.args.bucket (λ m. m.0 < length c.args.buckets.now.places) c.as_slice-6.result.now c.as_slice-7.result.now (c.as_slice-7.ensures.value ∙ c.in_ok-moves.ensures)
     (λ m there here goes. omega (arith, size, All-contains (λ s. s < c.args.packs.now.n) c.as_slice-6.result.now m.0 within there))
 
 pub update_buckets-requires-clause-not_behind : goal.update_buckets-requires-clause-not_behind
@@ -72,18 +72,18 @@ update_buckets-requires-clause-not_behind g c =
     (kept_in (is_winning (pack_at c.args.packs.now) c.args.holders.now c.args.bucket) c.args.packs.now.n c.args.packs.now.n c.args.watched.candidates.items c.as_slice.result.now c.in_ok-chosen.chosen.items
     c.requires.in_range c.as_slice.ensures.value c.in_ok-chosen.ensures refl)) in
     let drawn = ids_at c.args.buckets.now.places c.args.bucket in
-    leaving_all (pack_at c.args.packs.now) c.give.new.round c.args.buckets.now.places c.args.bucket (λ m. m.1 ≢ NONE → IsNotBehind c.args.buckets.now.order m.1 c.args.buckets.now.front) c.as_slice-6.result.now c.as_slice-7.result.now (c.as_slice-7.ensures.value ∙ c.in_ok-moves.ensures)
+    leaving_all (pack_at c.args.packs.now) c.give.new.columns.round.items c.args.buckets.now.places c.args.bucket (λ m. m.1 ≢ NONE → IsNotBehind c.args.buckets.now.order m.1 c.args.buckets.now.front) c.as_slice-6.result.now c.as_slice-7.result.now (c.as_slice-7.ensures.value ∙ c.in_ok-moves.ensures)
     (λ m there here goes some.
     let lt : m.0 < length c.args.buckets.now.places = omega (arith, size, All-contains (λ s. s < c.args.packs.now.n) c.as_slice-6.result.now m.0 within there) in
     subst (λ y. IsNotBehind c.args.buckets.now.order y c.args.buckets.now.front) (sym goes)
-    (not_behind c.args.bids.now c.args.owners.now c.args.bucket drawn c.args.packs.now c.args.round.now c.args.by.now (let at : At = record { round = c.args.at.round; bids = c.args.at.bids; owners = c.args.at.owners } in at) (with_emptied c.args.buckets.now c.args.bucket)
-    c.requires.can drawn refl c.args.packs.now (packed_already c.args.by.now c.args.packs.now c.requires.can.packed_well c.requires.open_sets drawn) c.give.new.round
+    (not_behind c.args.tables.now.bids.now c.args.tables.now.owners.now c.args.bucket drawn c.args.packs.now c.args.columns.now.round.items c.args.columns.now.by.items (let at : At = record { round = c.args.at.round; bids = c.args.at.bids; owners = c.args.at.owners } in at) (with_emptied c.args.buckets.now c.args.bucket)
+    c.requires.can drawn refl c.args.packs.now (packed_already c.args.columns.now.by.items c.args.packs.now c.requires.can.packed_well c.requires.open_sets drawn) c.give.new.columns.round.items
     m.0 (Contains-ids_at c.args.buckets.now.places c.args.bucket m.0 lt here) (λ none. some (goes ∙ none))))
 
 pub returns-clause-kept : goal.returns-clause-kept
 returns-clause-kept g c =
-    let right : AreRight c.args.buckets.now.places c.args.bucket (pack_at c.args.packs.now) c.give.new.round c.as_slice-6.result.now =
-    right_written (pack_at c.args.packs.now) c.args.round.now c.give.new.round c.args.buckets.now.places c.args.bucket c.args.watched.changed.items c.in_ok-chosen.chosen.items c.as_slice-6.result.now (λ _. c.args.at.round)
+    let right : AreRight c.args.buckets.now.places c.args.bucket (pack_at c.args.packs.now) c.give.new.columns.round.items c.as_slice-6.result.now =
+    right_written (pack_at c.args.packs.now) c.args.columns.now.round.items c.give.new.columns.round.items c.args.buckets.now.places c.args.bucket c.args.watched.changed.items c.in_ok-chosen.chosen.items c.as_slice-6.result.now (λ _. c.args.at.round)
     c.requires.right c.in_ok-owner_seat.ensures.round (c.as_slice-6.ensures.value ∙ c.in_ok-extend_from_slice.ensures.items ∙ ap (λ l. c.args.watched.changed.items ++ l) c.as_slice-5.ensures.value) in record {
       chosen = c.in_ok-chosen.chosen.items;
       chosen_are = c.in_ok-chosen.ensures ∙ ap (winning_of (pack_at c.args.packs.now) c.args.holders.now c.args.bucket) c.as_slice.ensures.value;
@@ -98,14 +98,14 @@ returns-clause-kept g c =
             let s : State = c.args.buckets.now in
             c.in_ok-update_buckets.ensures.ok
             ∙ ap (λ (l : List ℕ). let v : State = record s { places = l } in v)
-            (ap (set_places c.args.buckets.now.places) (c.as_slice-7.ensures.value ∙ c.in_ok-moves.ensures) ∙ same_places (pack_at c.args.packs.now) c.give.new.round c.args.buckets.now.places c.args.bucket c.as_slice-6.result.now right);
+            (ap (set_places c.args.buckets.now.places) (c.as_slice-7.ensures.value ∙ c.in_ok-moves.ensures) ∙ same_places (pack_at c.args.packs.now) c.give.new.columns.round.items c.args.buckets.now.places c.args.bucket c.as_slice-6.result.now right);
       };
       round_is = c.round_after-next.ensures ∙ ap (next_round c.args.at.round) c.as_slice-2.ensures.value;
       touched = c.in_ok-touched.touched.items;
       touched_are =
           same_members c.in_ok-touched.touched.items c.in_ok-holding.holding.items (holders_of (pack_at c.args.packs.now) c.args.holders.now c.in_ok-chosen.chosen.items) c.in_ok-touched.ensures.same
           (c.in_ok-holding.ensures ∙ ap (holders_of (pack_at c.args.packs.now) c.args.holders.now) c.as_slice-3.ensures.value);
-      packed = subst (λ (l : List ℕ). HasPacked c.give.new.by l c.args.packs.now c.renewed.new.packs) c.as_slice-8.ensures.value c.in_ok-candidates.ensures.packed;
+      packed = subst (λ (l : List ℕ). HasPacked c.give.new.columns.by.items l c.args.packs.now c.renewed.new.packs) c.as_slice-8.ensures.value c.in_ok-candidates.ensures.packed;
       next_are =
           subst (λ (l : List ℕ). (x : ℕ) → Contains c.in_ok-candidates.candidates.items x
           ↔ Contains (winners_of (pack_at c.renewed.new.packs) c.args.holders.now c.args.bucket (active_of (pack_at c.args.packs.now) c.args.bucket l)) x) c.as_slice-8.ensures.value c.in_ok-candidates.ensures.winners;
@@ -113,10 +113,10 @@ returns-clause-kept g c =
 
 pub returns-clause-right : goal.returns-clause-right
 returns-clause-right g c =
-    let right : AreRight c.args.buckets.now.places c.args.bucket (pack_at c.args.packs.now) c.give.new.round c.as_slice-6.result.now =
-    right_written (pack_at c.args.packs.now) c.args.round.now c.give.new.round c.args.buckets.now.places c.args.bucket c.args.watched.changed.items c.in_ok-chosen.chosen.items c.as_slice-6.result.now (λ _. c.args.at.round)
+    let right : AreRight c.args.buckets.now.places c.args.bucket (pack_at c.args.packs.now) c.give.new.columns.round.items c.as_slice-6.result.now =
+    right_written (pack_at c.args.packs.now) c.args.columns.now.round.items c.give.new.columns.round.items c.args.buckets.now.places c.args.bucket c.args.watched.changed.items c.in_ok-chosen.chosen.items c.as_slice-6.result.now (λ _. c.args.at.round)
     c.requires.right c.in_ok-owner_seat.ensures.round (c.as_slice-6.ensures.value ∙ c.in_ok-extend_from_slice.ensures.items ∙ ap (λ l. c.args.watched.changed.items ++ l) c.as_slice-5.ensures.value) in
-    still_right c.args.packs.now c.renewed.new.packs c.give.new.by c.give.new.round c.args.buckets.now.places c.update_buckets.new.self.places c.in_ok-touched.touched.items c.args.bucket
-    (ap (λ (s : State). s.places) c.in_ok-update_buckets.ensures.ok ∙ ap (set_places c.args.buckets.now.places) (c.as_slice-7.ensures.value ∙ c.in_ok-moves.ensures) ∙ same_places (pack_at c.args.packs.now) c.give.new.round c.args.buckets.now.places c.args.bucket c.as_slice-6.result.now right)
+    still_right c.args.packs.now c.renewed.new.packs c.give.new.columns.by.items c.give.new.columns.round.items c.args.buckets.now.places c.update_buckets.new.self.places c.in_ok-touched.touched.items c.args.bucket
+    (ap (λ (s : State). s.places) c.in_ok-update_buckets.ensures.ok ∙ ap (set_places c.args.buckets.now.places) (c.as_slice-7.ensures.value ∙ c.in_ok-moves.ensures) ∙ same_places (pack_at c.args.packs.now) c.give.new.columns.round.items c.args.buckets.now.places c.args.bucket c.as_slice-6.result.now right)
     (sym (length-emptied c.args.buckets.now.places c.args.bucket) ∙ c.requires.can.places_size)
-    (subst (λ (l : List ℕ). HasPacked c.give.new.by l c.args.packs.now c.renewed.new.packs) c.as_slice-8.ensures.value c.in_ok-candidates.ensures.packed)
+    (subst (λ (l : List ℕ). HasPacked c.give.new.columns.by.items l c.args.packs.now c.renewed.new.packs) c.as_slice-8.ensures.value c.in_ok-candidates.ensures.packed)

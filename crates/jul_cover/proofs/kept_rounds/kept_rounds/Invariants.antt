@@ -8,12 +8,12 @@ use Rattle.jul_cover.proofs.kept_rounds.kept_rounds.Given as goal
 
 abbrev pub invariant-rounds : goal.invariant-rounds
 invariant-rounds g l =
-    IsCovering l.sets l.bids l.owners l.fn.at.bids.home l.fn.at.owners.home l.packs l.round l.by (record { round = l.at.round; bids = l.at.bids; owners = l.at.owners }) l.buckets
-    × AreOpen l.marks l.by
+    IsCovering l.sets l.tables.bids.now l.tables.owners.now l.fn.at.bids.home l.fn.at.owners.home l.packs l.columns.round.items l.columns.by.items (record { round = l.at.round; bids = l.at.bids; owners = l.at.owners }) l.buckets
+    × AreOpen l.columns.marks.items l.columns.by.items
     × IsKeeping l.sets l.at.round l.last l.packs l.watched.candidates.items
     × All (λ s. s < l.packs.n) l.watched.candidates.items
     × IsStrictlyIncreasing l.watched.candidates.items
-    × AreRight l.buckets.places l.last (pack_at l.packs) l.round l.watched.changed.items
+    × AreRight l.buckets.places l.last (pack_at l.packs) l.columns.round.items l.watched.changed.items
     × All (λ s. s < l.packs.n) l.watched.changed.items
 
 abbrev pub decreases-rounds : goal.decreases-rounds

@@ -10,5 +10,5 @@ pub returns : goal.returns
 returns g c =
     let enough : length c.args.drawn.now ≤ c.div_ceil-chunks.result * c.args.team.now.chunk = rw c.div_ceil-chunks.ensures (div_ceil_times (length c.args.drawn.now) c.args.team.now.chunk c.args.team.now.some_members).0 in
     subst (λ l. IfOk c.joined.result (λ moves. moves.items ≡ l))
-    (gathered (move_of (pack_at c.args.packs.now) c.args.round.now) c.args.drawn.now c.args.team.now.chunk c.div_ceil-chunks.result _ _ _ _ c.in_ok-done.ensures.each_once enough)
+    (gathered (move_of (pack_at c.args.packs.now) c.args.columns.now.round.items) c.args.drawn.now c.args.team.now.chunk c.div_ceil-chunks.result _ _ _ _ c.in_ok-done.ensures.each_once enough)
     c.joined.ensures

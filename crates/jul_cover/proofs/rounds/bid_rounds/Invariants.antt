@@ -6,8 +6,8 @@ use Rattle.jul_cover.proofs.rounds.bid_rounds.Given as goal
 
 abbrev pub invariant-rounds : goal.invariant-rounds
 invariant-rounds g l =
-    IsCovering l.sets l.bids l.owners l.fn.at.bids.home l.fn.at.owners.home l.packs l.round l.by (record { round = l.at.round; bids = l.at.bids; owners = l.at.owners }) l.buckets
-    × AreOpen l.marks l.by
+    IsCovering l.sets l.tables.bids.now l.tables.owners.now l.fn.at.bids.home l.fn.at.owners.home l.packs l.columns.round.items l.columns.by.items (record { round = l.at.round; bids = l.at.bids; owners = l.at.owners }) l.buckets
+    × AreOpen l.columns.marks.items l.columns.by.items
     × (l.again ≤ NONE)
 
 abbrev pub decreases-rounds : goal.decreases-rounds

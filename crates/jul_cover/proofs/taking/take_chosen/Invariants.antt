@@ -8,6 +8,6 @@ use Rattle.jul_cover.proofs.taking.take_chosen.Given as goal
 abbrev pub invariant-loop-s : goal.invariant-loop-s
 invariant-loop-s l =
     (l.seat ≡ l.fn.seat)
-    × AreWritten (take l.s-index l.chosen) (λ _. l.t) l.fn.round l.round
-    × AreWritten (flat_map (pack_at l.packs) (take l.s-index l.chosen)) (word_of l.fn.seat) l.fn.by l.by
-    × AreOpen l.marks l.by
+    × AreWritten (take l.s-index l.chosen) (λ _. l.t) l.fn.columns.round.items l.columns.round.items
+    × AreWritten (flat_map (pack_at l.packs) (take l.s-index l.chosen)) (word_of l.fn.seat) l.fn.columns.by.items l.columns.by.items
+    × AreOpen l.columns.marks.items l.columns.by.items

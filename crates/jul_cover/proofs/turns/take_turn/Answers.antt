@@ -4,7 +4,7 @@ use Rattle.jul_cover.specs.PackedSets.{pack_at, HasPacked}
 use Rattle.jul_cover.specs.CoverBids.{bid_base}
 use Rattle.jul_cover.specs.Choosing.{held_by}
 use Rattle.jul_cover.specs.CoverWork.{At}
-use Rattle.jul_cover.proofs.MoveTurnLaws.{kept_rises, kept_in, drawn_few, moves_in, moves_ahead}
+use Rattle.jul_cover.proofs.MoveTurnLaws.{kept_rises, kept_in, drawn_few, can_move, moves_in, moves_ahead}
 use Rattle.jul_cover.proofs.turns.take_turn.Goals as goal
 
 pub choose-requires-clause-increasing : goal.choose-requires-clause-increasing
@@ -31,17 +31,22 @@ give-requires-clause-in_range g c κs within =
 
 pub moves_after-requires-clause-few : goal.moves_after-requires-clause-few
 moves_after-requires-clause-few g c κs within =
-    drawn_few c.args.bids.now c.args.owners.now c.args.bucket c.args.drawn.items c.args.packs.now c.args.round.now c.args.by.now (let at : At = record { round = c.args.at.round; bids = c.args.at.bids; owners = c.args.at.owners } in at) c.args.buckets.now
+    drawn_few c.args.tables.now.bids.now c.args.tables.now.owners.now c.args.bucket c.args.drawn.items c.args.packs.now c.args.columns.now.round.items c.args.columns.now.by.items (let at : At = record { round = c.args.at.round; bids = c.args.at.bids; owners = c.args.at.owners } in at) c.args.buckets.now
     c.requires.can c.as_slice-4.result.now c.as_slice-4.ensures.value
+
+pub moves_after-requires-clause-can : goal.moves_after-requires-clause-can
+moves_after-requires-clause-can g c κs within =
+    can_move c.args.tables.now.bids.now c.args.tables.now.owners.now c.args.bucket c.args.drawn.items c.args.packs.now c.args.columns.now.round.items c.args.columns.now.by.items (let at : At = record { round = c.args.at.round; bids = c.args.at.bids; owners = c.args.at.owners } in at) c.args.buckets.now
+    c.requires.can c.as_slice-4.result.now c.as_slice-4.ensures.value c.pack_each.new.p (subst (λ l. HasPacked c.args.columns.now.by.items l c.args.packs.now c.pack_each.new.p) c.as_slice.ensures.value c.pack_each.ensures) c.give.new.columns.round.items
 
 pub update_buckets-requires-clause-ids : goal.update_buckets-requires-clause-ids
 update_buckets-requires-clause-ids g c =
-    moves_in c.args.bids.now c.args.owners.now c.args.bucket c.args.drawn.items c.args.packs.now c.args.round.now c.args.by.now (let at : At = record { round = c.args.at.round; bids = c.args.at.bids; owners = c.args.at.owners } in at) c.args.buckets.now
-    c.requires.can c.as_slice-4.result.now c.as_slice-4.ensures.value c.pack_each.new.p (subst (λ l. HasPacked c.args.by.now l c.args.packs.now c.pack_each.new.p) c.as_slice.ensures.value c.pack_each.ensures) c.give.new.round
+    moves_in c.args.tables.now.bids.now c.args.tables.now.owners.now c.args.bucket c.args.drawn.items c.args.packs.now c.args.columns.now.round.items c.args.columns.now.by.items (let at : At = record { round = c.args.at.round; bids = c.args.at.bids; owners = c.args.at.owners } in at) c.args.buckets.now
+    c.requires.can c.as_slice-4.result.now c.as_slice-4.ensures.value c.pack_each.new.p (subst (λ l. HasPacked c.args.columns.now.by.items l c.args.packs.now c.pack_each.new.p) c.as_slice.ensures.value c.pack_each.ensures) c.give.new.columns.round.items
     c.in_ok-moves.moves.items c.as_slice-5.result.now c.in_ok-moves.ensures c.as_slice-5.ensures.value
 
 pub update_buckets-requires-clause-not_behind : goal.update_buckets-requires-clause-not_behind
 update_buckets-requires-clause-not_behind g c =
-    moves_ahead c.args.bids.now c.args.owners.now c.args.bucket c.args.drawn.items c.args.packs.now c.args.round.now c.args.by.now (let at : At = record { round = c.args.at.round; bids = c.args.at.bids; owners = c.args.at.owners } in at) c.args.buckets.now
-    c.requires.can c.as_slice-4.result.now c.as_slice-4.ensures.value c.pack_each.new.p (subst (λ l. HasPacked c.args.by.now l c.args.packs.now c.pack_each.new.p) c.as_slice.ensures.value c.pack_each.ensures) c.give.new.round
+    moves_ahead c.args.tables.now.bids.now c.args.tables.now.owners.now c.args.bucket c.args.drawn.items c.args.packs.now c.args.columns.now.round.items c.args.columns.now.by.items (let at : At = record { round = c.args.at.round; bids = c.args.at.bids; owners = c.args.at.owners } in at) c.args.buckets.now
+    c.requires.can c.as_slice-4.result.now c.as_slice-4.ensures.value c.pack_each.new.p (subst (λ l. HasPacked c.args.columns.now.by.items l c.args.packs.now c.pack_each.new.p) c.as_slice.ensures.value c.pack_each.ensures) c.give.new.columns.round.items
     c.in_ok-moves.moves.items c.as_slice-5.result.now c.in_ok-moves.ensures c.as_slice-5.ensures.value
