@@ -28,7 +28,7 @@ use jul_bucket::Buckets;
 use jul_pool::Team;
 use jul_rows::InRows;
 use jul_subset::VertexSubset;
-use jul_words::{MinSeat, MinWords};
+use jul_words::MinSeat;
 use std::alloc::{AllocError, Global};
 use std::thread::Threads;
 
@@ -112,20 +112,12 @@ pub(crate) fn take_kept_turn<R: Threads + Sync, G: Gate>(
         chosen.as_slice(),
         bucket,
         t,
-        tables.bids,
+        tables,
         bid_seat,
     )?;
     listed.extend_from_slice(chosen.as_slice())?;
     let owner_seat = give(
-        rt,
-        alloc,
-        team,
-        packs,
-        chosen,
-        t,
-        tables.owners,
-        owner_seat,
-        columns,
+        rt, alloc, team, packs, chosen, t, tables, owner_seat, columns,
     )?;
     let moves = moves_from(alloc, listed.as_slice(), bucket, packs, columns, buckets)?;
     buckets.update_buckets(moves.as_slice())?;
@@ -167,14 +159,14 @@ fn bid_for<R: Threads + Sync, G: Gate>(
     chosen: &[u32],
     bucket: u64,
     t: u64,
-    words: &MinWords,
+    tables: &Tables<'_, '_>,
     seat: MinSeat,
 ) -> Result<MinSeat, AllocError>
     requires packed { ArePacked packs.now }
     requires within { AreWithin packs.now.n holders.now }
     requires in_range { All (λ s. s < packs.now.n) chosen.now }
     requires few { t ≤ MAX_N }
-    requires root { IsRootOf packs.now.n words.now seat }
+    requires root { IsRootOf packs.now.n tables.now.bids.now seat }
 
     ensures { IfOk result (λ r. HasBid (pack_at packs.now) holders.now bucket chosen.now (bid_base t) seat r) }
 {
@@ -182,6 +174,7 @@ fn bid_for<R: Threads + Sync, G: Gate>(
     let bidders = ordered(alloc, packs.n, winners)?;
     let work = work_of(packs, bidders.as_slice());
     let members = VertexSubset::from_increasing(alloc, packs.n, bidders);
+    let words = tables.bids;
     let base = base_of(t);
     let seat = offer_all(rt, alloc, team, packs, &members, work, base, words, seat)?;
     Ok(seat)

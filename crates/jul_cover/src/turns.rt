@@ -24,7 +24,7 @@ use jul_base::Gate;
 use jul_bucket::Buckets;
 use jul_pool::Team;
 use jul_subset::VertexSubset;
-use jul_words::{MinSeat, MinWords};
+use jul_words::MinSeat;
 use std::alloc::{AllocError, Global};
 use std::thread::Threads;
 
@@ -79,17 +79,7 @@ pub(crate) fn take_turn<R: Threads + Sync, G: Gate>(
     pack_each(packs, drawn.as_slice(), columns);
     let active = active_sets(alloc, packs, drawn.as_slice(), bucket)?;
     let next = round_after(t, active.as_slice());
-    let chosen = choose(
-        rt,
-        alloc,
-        team,
-        packs,
-        active,
-        bucket,
-        t,
-        tables.bids,
-        bid_seat,
-    )?;
+    let chosen = choose(rt, alloc, team, packs, active, bucket, t, tables, bid_seat)?;
     let owner_seat = give(
         rt,
         alloc,
@@ -97,7 +87,7 @@ pub(crate) fn take_turn<R: Threads + Sync, G: Gate>(
         packs,
         chosen.sets,
         t,
-        tables.owners,
+        tables,
         owner_seat,
         columns,
     )?;
@@ -128,19 +118,20 @@ fn choose<R: Threads + Sync, G: Gate>(
     active: Vec<u32>,
     bucket: u64,
     t: u64,
-    words: &MinWords,
+    tables: &Tables<'_, '_>,
     seat: MinSeat,
 ) -> Result<Chosen, AllocError>
     requires packed { ArePacked packs.now }
     requires increasing { IsStrictlyIncreasing active.items }
     requires in_range { All (λ s. s < packs.now.n) active.items }
     requires few { t ≤ MAX_N }
-    requires root { IsRootOf packs.now.n words.now seat }
+    requires root { IsRootOf packs.now.n tables.now.bids.now seat }
 
     ensures offered { IfOk result (λ r. HasOffered active.items (pack_at packs.now) (bid_base t) seat r.seat) }
     ensures chosen { IfOk result (λ r. r.sets.items ≡
         chosen_of (pack_at packs.now) (word_of r.seat) (bid_base t) bucket active.items) }
 {
+    let words = tables.bids;
     let base = base_of(t);
     let work = work_of(packs, active.as_slice());
     let members = VertexSubset::from_increasing(alloc, packs.n, active);
@@ -160,14 +151,14 @@ pub(crate) fn give<R: Threads + Sync, G: Gate>(
     packs: &PackedSets,
     chosen: Vec<u32>,
     t: u64,
-    words: &MinWords,
+    tables: &Tables<'_, '_>,
     seat: MinSeat,
     columns: &mut Columns,
 ) -> Result<MinSeat, AllocError>
     requires packed { ArePacked packs.now }
     requires increasing { IsStrictlyIncreasing chosen.items }
     requires in_range { All (λ s. s < packs.now.n) chosen.items }
-    requires root { IsRootOf packs.now.n words.now seat }
+    requires root { IsRootOf packs.now.n tables.now.owners.now seat }
     requires round { length columns.old.round.items ≡ packs.now.n }
     requires by { length columns.old.by.items ≡ packs.now.n }
     requires marks { AreOpen columns.old.marks.items columns.old.by.items }
@@ -180,6 +171,7 @@ pub(crate) fn give<R: Threads + Sync, G: Gate>(
         columns.old.by.items columns.new.by.items) }
     ensures marks { IfOk result (λ _. AreOpen columns.new.marks.items columns.new.by.items) }
 {
+    let words = tables.owners;
     let work = work_of(packs, chosen.as_slice());
     let members = VertexSubset::from_increasing(alloc, packs.n, chosen);
     let mut seat = offer_all(rt, alloc, team, packs, &members, work, 0, words, seat)?;
