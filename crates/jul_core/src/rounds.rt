@@ -15,8 +15,18 @@ use jul_words::{CountSeat, CountWords};
 use std::alloc::{AllocError, Global};
 use std::thread::Threads;
 
-/// Draws bucket after bucket till no vertex is in a bucket. Draw number t is level t. Three lists are used again from round
-/// to round, so that a small round costs no more than its work.
+/// What a round fills in place of what the round before left there, so that a small round takes no memory.
+#[derive(Drop)]
+struct Lists {
+    /// The vertices that places lead to, as they were met.
+    noted: Vec<u32>,
+    /// Each of them with the number of these places.
+    reached: Vec<(u32, u64)>,
+    /// The vertices that move, with their new buckets.
+    moves: Vec<(u32, u64)>,
+}
+
+/// Draws bucket after bucket till no vertex is in a bucket. Draw number t is level t.
 pub(crate) fn peel_rounds<R: Threads + Sync, G: Gate>(
     rt: &R,
     alloc: Global,
@@ -33,9 +43,11 @@ pub(crate) fn peel_rounds<R: Threads + Sync, G: Gate>(
     ensures none_left { IfOk result (λ _. AllNone buckets.new.places) }
 {
     prove!(rows.n() <= MAX_N);
-    let mut noted = Vec::new(alloc);
-    let mut list = Vec::new(alloc);
-    let mut moves = Vec::new(alloc);
+    let mut lists = Lists {
+        noted: Vec::new(alloc),
+        reached: Vec::new(alloc),
+        moves: Vec::new(alloc),
+    };
     'rounds: loop {
         let Some((bucket, ids)) = buckets.next_bucket()? else {
             return Ok(seat);
@@ -50,9 +62,7 @@ pub(crate) fn peel_rounds<R: Threads + Sync, G: Gate>(
             counts,
             seat,
             buckets,
-            &mut noted,
-            &mut list,
-            &mut moves,
+            &mut lists,
         )?;
     }
 }
@@ -103,7 +113,7 @@ fn work_to_share(workers: u32, rows: &Rows, drawn: &[u32]) -> u64
 }
 
 /// Moves each vertex that is in a bucket down by the number of places that lead to it from the drawn ones, but not below
-/// the bucket drawn. The places are counted by as many workers as they are worth. The three lists are filled again.
+/// the bucket drawn. The places are counted by as many workers as they are worth.
 fn lower_reached<R: Threads + Sync, G: Gate>(
     rt: &R,
     alloc: Global,
@@ -114,9 +124,7 @@ fn lower_reached<R: Threads + Sync, G: Gate>(
     counts: &CountWords,
     seat: CountSeat,
     buckets: &mut Buckets,
-    noted: &mut Vec<u32>,
-    list: &mut Vec<(u32, u64)>,
-    moves: &mut Vec<(u32, u64)>,
+    lists: &mut Lists,
 ) -> Result<CountSeat, AllocError>
     requires can { CanRound rows.now counts.now bucket drawn.now seat buckets.old }
 
@@ -125,8 +133,13 @@ fn lower_reached<R: Threads + Sync, G: Gate>(
     prove!(rows.n() <= MAX_N);
     let work = work_to_share(team.workers, rows, drawn);
     let crew = team.for_members(drawn.len(), work);
-    let seat = edge_counts_noted(rt, alloc, &crew, rows, drawn, counts, seat, noted, list)?;
-    moves_down(rt, alloc, team, list.as_slice(), bucket, buckets, moves)?;
+    let Lists {
+        noted,
+        reached,
+        moves,
+    } = lists;
+    let seat = edge_counts_noted(rt, alloc, &crew, rows, drawn, counts, seat, noted, reached)?;
+    moves_down(rt, alloc, team, reached.as_slice(), bucket, buckets, moves)?;
     buckets.update_buckets(moves.as_slice())?;
     Ok(seat)
 }
