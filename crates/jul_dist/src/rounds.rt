@@ -17,6 +17,10 @@ use jul_words::{MinHand, MinSeat, MinWords};
 use std::alloc::{AllocError, Global};
 use std::thread::Threads;
 
+/// A place weighs as much as so many steps of those that a further worker is started for: it is a far read and mostly a
+/// locked step.
+const STEPS_FOR_A_PLACE: u64 = 2;
+
 /// Offers the target of each place from a vertex of `from` the value of its source and its weight together, and gives the
 /// root back. The vertices that some application found greater than what it offered stand in place of what `lowered` held.
 ///
@@ -58,7 +62,7 @@ pub(crate) fn relax_round<R: Threads + Sync, G: Gate>(
         words,
     };
     let hand = MinHand { words, seat };
-    let team = team.for_work(reach);
+    let team = team.for_work(reach.saturating_mul(STEPS_FOR_A_PLACE));
     let out = edge_notes_by_reach(
         rt, alloc, &team, rows, in_rows, from, reach, &f, hand, lowered,
     )?;
