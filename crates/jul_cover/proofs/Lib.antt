@@ -10,6 +10,7 @@ pub mod SizeLaws
 pub mod ColumnLaws
 pub mod PackingLaws
 pub mod OfferLaws
+pub mod CountingLaws
 pub mod MoveLaws
 pub mod RoundLaws
 pub mod TurnLaws

@@ -11,8 +11,9 @@ ghost use Rattle.jul_cover.specs.Offers.{IsRootOf, HasOffered};
 ghost use Rattle.jul_cover.specs.Choosing.{chosen_of};
 ghost use Rattle.jul_cover.specs.CoverWork.{CanTurn, HasTurned};
 
-use crate::choosing::{active_sets, chosen_sets, work_of};
+use crate::choosing::{active_sets, work_of};
 use crate::columns::Columns;
+use crate::counting::chosen_by;
 use crate::moving::moves_after;
 use crate::offering::offer_all;
 use crate::packed_sets::PackedSets;
@@ -136,10 +137,9 @@ fn choose<R: Threads + Sync, G: Gate>(
     let work = work_of(packs, active.as_slice());
     let members = VertexSubset::from_increasing(alloc, packs.n, active);
     let mut seat = offer_all(rt, alloc, team, packs, &members, work, base, words, seat)?;
-    let Some(active) = members.as_slice() else {
-        unreachable!()
-    };
-    let sets = chosen_sets(alloc, packs, active, bucket, base, words, &mut seat)?;
+    let sets = chosen_by(
+        rt, alloc, team, packs, &members, work, bucket, base, words, &mut seat,
+    )?;
     Ok(Chosen { sets, seat })
 }
 
