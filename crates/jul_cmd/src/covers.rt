@@ -14,15 +14,15 @@ use jul_cover::cover_of;
 use jul_rows::Rows;
 use std::thread::Threads;
 
-/// The rounds of a cover and the set of each element, or why there are none.
+/// The rounds of a cover and the set of each element, or why there are none. The rows are given back before the rounds begin.
 pub fn find_cover<R: Threads + Sync, G: Gate>(
     resources: &Resources<'_, '_, R, G>,
-    rows: &Rows,
+    rows: Rows,
 ) -> Result<Cover, Status>
-    ensures suited { OnOk result (IsSuited rows.now cover) }
-    ensures whole { IfOk result (λ found. IsResult rows.now cover (results.Cover found)) }
+    ensures suited { OnOk result (IsSuited rows cover) }
+    ensures whole { IfOk result (λ found. IsResult rows cover (results.Cover found)) }
     ensures lawful { IfOk result IsLawfulCover }
-    ensures refused { IfErr result (IsUnsolved rows.now cover) }
+    ensures refused { IfErr result (IsUnsolved rows cover) }
 {
     prove!(rows.n() <= MAX_N);
     let found = cover_of(

@@ -9,7 +9,7 @@ ghost use Rattle.jul_cmd.specs.Outcomes.{HasCause, WroteOrFailed, IsUntroubled, 
 ghost use Rattle.jul_cmd.specs.Parts.{IsGiven, IsRefused, IsWritable, text_of};
 
 use crate::checking::judge;
-use crate::loading::load_input;
+use crate::loading::{Loaded, load_input};
 use crate::messages::write_message;
 use crate::replies::Reply;
 use crate::resources::Resources;
@@ -37,14 +37,14 @@ fn find_reply<R: Threads + Sync, G: Gate, F: Shelf>(
 {
     let Query { input, work, .. } = query;
     let loaded = load_input(resources, input, files)?;
-    let rows = &loaded.rows;
+    let Loaded { rows, is_symmetric } = loaded;
     match work {
-        Work::Solve(problem, form) => solve(resources, rows, loaded.is_symmetric, problem, form),
+        Work::Solve(problem, form) => solve(resources, rows, is_symmetric, problem, form),
         Work::Judge {
             purpose,
             witness,
             sources,
-        } => judge(resources.alloc, rows, purpose, witness, sources, files),
+        } => judge(resources.alloc, &rows, purpose, witness, sources, files),
     }
 }
 

@@ -27,22 +27,22 @@ use std::thread::Threads;
 // The first column of the result of a problem.
 fn find_column<R: Threads + Sync, G: Gate>(
     resources: &Resources<'_, '_, R, G>,
-    rows: &Rows,
+    rows: Rows,
     is_symmetric: bool,
     problem: &Problem,
 ) -> Result<Column, Status>
-    requires { IsPosed rows.now is_symmetric problem.now }
+    requires { IsPosed rows is_symmetric problem.now }
 
-    ensures suited { OnOk result (IsSuited rows.now (problem_of problem.now)) }
-    ensures found { IfOk result (AreValues rows.now (problem_of problem.now)) }
-    ensures refused { IfErr result (IsUnsolved rows.now (problem_of problem.now)) }
+    ensures suited { OnOk result (IsSuited rows (problem_of problem.now)) }
+    ensures found { IfOk result (AreValues rows (problem_of problem.now)) }
+    ensures refused { IfErr result (IsUnsolved rows (problem_of problem.now)) }
 {
     match problem {
         Problem::Distances { sources, delta } => {
-            find_distances(resources, rows, sources.as_slice(), *delta)
+            find_distances(resources, &rows, sources.as_slice(), *delta)
         }
         Problem::Cores => {
-            let found = find_cores(resources, rows, is_symmetric)?;
+            let found = find_cores(resources, &rows, is_symmetric)?;
             Ok(found.core)
         }
         Problem::Cover => {
@@ -55,24 +55,24 @@ fn find_column<R: Threads + Sync, G: Gate>(
 // All columns of the result of a problem.
 fn find_result<R: Threads + Sync, G: Gate>(
     resources: &Resources<'_, '_, R, G>,
-    rows: &Rows,
+    rows: Rows,
     is_symmetric: bool,
     problem: &Problem,
 ) -> Result<Columns, Status>
-    requires { IsPosed rows.now is_symmetric problem.now }
+    requires { IsPosed rows is_symmetric problem.now }
 
-    ensures suited { OnOk result (IsSuited rows.now (problem_of problem.now)) }
-    ensures found { IfOk result (IsResult rows.now (problem_of problem.now)) }
+    ensures suited { OnOk result (IsSuited rows (problem_of problem.now)) }
+    ensures found { IfOk result (IsResult rows (problem_of problem.now)) }
     ensures lawful { IfOk result IsLawful }
-    ensures refused { IfErr result (IsUnsolved rows.now (problem_of problem.now)) }
+    ensures refused { IfErr result (IsUnsolved rows (problem_of problem.now)) }
 {
     match problem {
         Problem::Distances { sources, delta } => {
-            let found = find_tree(resources, rows, sources.as_slice(), *delta)?;
+            let found = find_tree(resources, &rows, sources.as_slice(), *delta)?;
             Ok(Columns::Distances(found))
         }
         Problem::Cores => {
-            let found = find_cores(resources, rows, is_symmetric)?;
+            let found = find_cores(resources, &rows, is_symmetric)?;
             Ok(Columns::Cores(found))
         }
         Problem::Cover => {
@@ -85,15 +85,15 @@ fn find_result<R: Threads + Sync, G: Gate>(
 // The first column alone.
 fn solve_bare<R: Threads + Sync, G: Gate>(
     resources: &Resources<'_, '_, R, G>,
-    rows: &Rows,
+    rows: Rows,
     is_symmetric: bool,
     problem: &Problem,
 ) -> Result<Reply, Status>
-    requires { IsPosed rows.now is_symmetric problem.now }
+    requires { IsPosed rows is_symmetric problem.now }
 
-    ensures done { IfOk result (Solves rows.now (problem_of problem.now) bare) }
+    ensures done { IfOk result (Solves rows (problem_of problem.now) bare) }
     ensures writable { IfOk result (λ reply. IsWritable reply.text) }
-    ensures refused { IfErr result (IsUnsolved rows.now (problem_of problem.now)) }
+    ensures refused { IfErr result (IsUnsolved rows (problem_of problem.now)) }
 {
     let column = find_column(resources, rows, is_symmetric, problem)?;
     Ok(Reply {
@@ -117,19 +117,19 @@ fn problem_sources(alloc: Global, problem: Problem) -> Result<Ids, AllocError>
 // All columns, which a check accepts.
 fn solve_whole<R: Threads + Sync, G: Gate>(
     resources: &Resources<'_, '_, R, G>,
-    rows: &Rows,
+    rows: Rows,
     is_symmetric: bool,
     problem: Problem,
 ) -> Result<Reply, Status>
-    requires { IsPosed rows.now is_symmetric problem }
+    requires { IsPosed rows is_symmetric problem }
 
-    ensures done { IfOk result (Solves rows.now (problem_of problem) whole) }
+    ensures done { IfOk result (Solves rows (problem_of problem) whole) }
     ensures writable { IfOk result (λ reply. IsWritable reply.text) }
-    ensures refused { IfErr result (IsUnsolved rows.now (problem_of problem)) }
+    ensures refused { IfErr result (IsUnsolved rows (problem_of problem)) }
 {
+    let places = rows.m();
     let columns = find_result(resources, rows, is_symmetric, &problem)?;
     let sources = problem_sources(resources.alloc, problem)?;
-    let places = rows.m();
     columns.is_read_back(places, sources.as_slice());
     Ok(Reply {
         status: Status::Done,
@@ -145,16 +145,16 @@ fn solve_whole<R: Threads + Sync, G: Gate>(
 /// be symmetric.
 pub fn solve<R: Threads + Sync, G: Gate>(
     resources: &Resources<'_, '_, R, G>,
-    rows: &Rows,
+    rows: Rows,
     is_symmetric: bool,
     problem: Problem,
     form: Form,
 ) -> Result<Reply, Status>
-    requires { IsPosed rows.now is_symmetric problem }
+    requires { IsPosed rows is_symmetric problem }
 
-    ensures done { IfOk result (Solves rows.now (problem_of problem) (form_of form)) }
+    ensures done { IfOk result (Solves rows (problem_of problem) (form_of form)) }
     ensures writable { IfOk result (λ reply. IsWritable reply.text) }
-    ensures refused { IfErr result (IsUnsolved rows.now (problem_of problem)) }
+    ensures refused { IfErr result (IsUnsolved rows (problem_of problem)) }
 {
     match form {
         Form::Whole => solve_whole(resources, rows, is_symmetric, problem),

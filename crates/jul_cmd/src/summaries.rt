@@ -38,16 +38,15 @@ fn put_named(line: &mut Line, name: &[u8], value: u64)
 }
 
 // The name of a task, the sizes of the graph, and two numbers with their names.
-fn line_of(task: Task, rows: &Rows, first: &[u8], a: u64, second: &[u8], b: u64) -> Line
+fn line_of(task: Task, n: u32, m: u32, first: &[u8], a: u64, second: &[u8], b: u64) -> Line
     requires first { length first.now ≤ 8 }
     requires second { length second.now ≤ 8 }
 
-    ensures { result ≡ summary_line (task_name task)
-        (vertices rows.now) (places rows.now) first.now a second.now b }
+    ensures { result ≡ summary_line (task_name task) n m first.now a second.now b }
 {
     let mut line = Line::of(task.name().as_bytes());
-    put_named(&mut line, b"n", u64::from(rows.n()));
-    put_named(&mut line, b"m", u64::from(rows.m()));
+    put_named(&mut line, b"n", u64::from(n));
+    put_named(&mut line, b"m", u64::from(m));
     put_named(&mut line, first, a);
     put_named(&mut line, second, b);
     line.put(b"\n");
@@ -72,7 +71,8 @@ fn sum_distances<R: Threads + Sync, G: Gate>(
     let dist = find_distances(resources, rows, sources, delta)?;
     let reached = number_count(&dist);
     let most = greatest_number(&dist);
-    Ok(line_of(task, rows, b"reached", reached, b"max", most))
+    let (n, m) = (rows.n(), rows.m());
+    Ok(line_of(task, n, m, b"reached", reached, b"max", most))
 }
 
 // The greatest core, and how many vertices have it.
@@ -91,44 +91,46 @@ fn sum_cores<R: Threads + Sync, G: Gate>(
     let found = find_cores(resources, rows, is_symmetric)?;
     let most = greatest_value(&found.core);
     let top = times_in(&found.core, most);
-    Ok(line_of(task, rows, b"max", most, b"top", top))
+    let (n, m) = (rows.n(), rows.m());
+    Ok(line_of(task, n, m, b"max", most, b"top", top))
 }
 
 // How many sets are chosen, and how many elements there are.
 fn sum_cover<R: Threads + Sync, G: Gate>(
     resources: &Resources<'_, '_, R, G>,
-    rows: &Rows,
+    rows: Rows,
     task: Task,
 ) -> Result<Line, Status>
-    ensures suited { OnOk result (IsSuited rows.now cover) }
-    ensures summed { IfOk result (IsSummary rows.now cover (task_name task)) }
-    ensures refused { IfErr result (IsUnsolved rows.now cover) }
+    ensures suited { OnOk result (IsSuited rows cover) }
+    ensures summed { IfOk result (IsSummary rows cover (task_name task)) }
+    ensures refused { IfErr result (IsUnsolved rows cover) }
 {
+    let (n, m) = (rows.n(), rows.m());
     let found = find_cover(resources, rows)?;
     let chosen = number_count(&found.round);
     let covered = number_count(&found.by);
-    Ok(line_of(task, rows, b"chosen", chosen, b"covered", covered))
+    Ok(line_of(task, n, m, b"chosen", chosen, b"covered", covered))
 }
 
 // The line of a problem's result.
 fn sum_up<R: Threads + Sync, G: Gate>(
     resources: &Resources<'_, '_, R, G>,
-    rows: &Rows,
+    rows: Rows,
     is_symmetric: bool,
     problem: &Problem,
     task: Task,
 ) -> Result<Line, Status>
-    requires { IsPosed rows.now is_symmetric problem.now }
+    requires { IsPosed rows is_symmetric problem.now }
 
-    ensures suited { OnOk result (IsSuited rows.now (problem_of problem.now)) }
-    ensures summed { IfOk result (IsSummary rows.now (problem_of problem.now) (task_name task)) }
-    ensures refused { IfErr result (IsUnsolved rows.now (problem_of problem.now)) }
+    ensures suited { OnOk result (IsSuited rows (problem_of problem.now)) }
+    ensures summed { IfOk result (IsSummary rows (problem_of problem.now) (task_name task)) }
+    ensures refused { IfErr result (IsUnsolved rows (problem_of problem.now)) }
 {
     match problem {
         Problem::Distances { sources, delta } => {
-            sum_distances(resources, rows, task, sources.as_slice(), *delta)
+            sum_distances(resources, &rows, task, sources.as_slice(), *delta)
         }
-        Problem::Cores => sum_cores(resources, rows, is_symmetric, task),
+        Problem::Cores => sum_cores(resources, &rows, is_symmetric, task),
         Problem::Cover => sum_cover(resources, rows, task),
     }
 }
@@ -136,16 +138,16 @@ fn sum_up<R: Threads + Sync, G: Gate>(
 /// The result of a problem as one line that begins with the name of the task, or why there is none.
 pub fn solve_summary<R: Threads + Sync, G: Gate>(
     resources: &Resources<'_, '_, R, G>,
-    rows: &Rows,
+    rows: Rows,
     is_symmetric: bool,
     problem: &Problem,
     task: Task,
 ) -> Result<Reply, Status>
-    requires { IsPosed rows.now is_symmetric problem.now }
+    requires { IsPosed rows is_symmetric problem.now }
 
-    ensures done { IfOk result (Solves rows.now (problem_of problem.now) (summary (task_name task))) }
+    ensures done { IfOk result (Solves rows (problem_of problem.now) (summary (task_name task))) }
     ensures writable { IfOk result (λ reply. IsWritable reply.text) }
-    ensures refused { IfErr result (IsUnsolved rows.now (problem_of problem.now)) }
+    ensures refused { IfErr result (IsUnsolved rows (problem_of problem.now)) }
 {
     let line = sum_up(resources, rows, is_symmetric, problem, task)?;
     Ok(Reply {

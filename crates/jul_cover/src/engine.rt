@@ -118,21 +118,23 @@ pub fn cover<R: Threads + Sync, G: Gate>(
 
 /// The cover of the sets of a graph's rows, with tables and buckets of its own, of which so many are open.
 ///
-/// Memory that runs out is the only refusal.
+/// The rows are given back once their sets are made, before the rounds take their memory. Memory that runs out is the only
+/// refusal.
 pub fn cover_of<R: Threads + Sync, G: Gate>(
     rt: &R,
     alloc: Global,
     team: &Team<'_, G>,
-    rows: &Rows,
+    rows: Rows,
     open_count: u32,
 ) -> Result<Cover, AllocError>
     requires open_some { 0 < open_count }
     requires open_few { open_count ≤ MAX_OPEN }
 
-    ensures cover { IfOk result (IsCover (sets_of rows.now)) }
-    ensures small { IfOk result (λ cover. IsSmallCover (sets_of rows.now) cover.round) }
+    ensures cover { IfOk result (IsCover (sets_of rows)) }
+    ensures small { IfOk result (λ cover. IsSmallCover (sets_of rows) cover.round) }
 {
     let sets = rows.elements()?;
+    drop(rows);
     let start = vec![in alloc; NONE; sets.n() as usize]?;
     let floors = ZeroFloors { count: sets.n() };
     let (bids, bid_seat) = MinWords::open(alloc, start.as_slice(), &floors)?;

@@ -32,7 +32,8 @@ fn expect(rt: &impl Abort, cover: &Cover, round: &[u64], by: &[u64]) {
 fn covers_as<R: Threads + Sync + Abort>(
     rt: &R,
     alloc: Global,
-    rows: &Rows,
+    offsets: &[u32],
+    targets: &[u32],
     round: &[u64],
     by: &[u64],
 ) -> Result<(), Fail> {
@@ -42,6 +43,7 @@ fn covers_as<R: Threads + Sync + Abort>(
             chunk: 1,
             gate: &OpenGate,
         };
+        let rows = rows_of(alloc, offsets, targets)?;
         expect(rt, &cover_of(rt, alloc, &team, rows, 2)?, round, by);
     }
     Ok(())
@@ -50,32 +52,42 @@ fn covers_as<R: Threads + Sync + Abort>(
 #[test]
 fn an_element_of_two_chosen_sets_goes_to_the_lesser(rt: HostRuntime) -> Result<(), Fail> {
     // Sets 0 and 1 have two elements each, and 3 is in both. Set 1 wins exactly half.
-    let rows = rows_of(rt.alloc(), &[0, 2, 4, 4, 4], &[2, 3, 3, 4])?;
     let round = [0, 0, NONE, NONE, NONE];
     let by = [NONE, NONE, 0, 0, 1];
-    covers_as(&rt, rt.alloc(), &rows, round.as_slice(), by.as_slice())
+    covers_as(
+        &rt,
+        rt.alloc(),
+        &[0, 2, 4, 4, 4],
+        &[2, 3, 3, 4],
+        round.as_slice(),
+        by.as_slice(),
+    )
 }
 
 /// Sets 0 and 1 of four elements each, of which three are in both.
-fn two_large_sets(alloc: Global) -> Result<Rows, Fail> {
-    rows_of(
-        alloc,
-        &[0, 4, 8, 8, 8, 8, 8, 8, 8],
-        &[4, 5, 6, 7, 5, 6, 7, 8],
-    )
-}
+const TWO_LARGE_SETS: ([u32; 9], [u32; 8]) = (
+    [0, 4, 8, 8, 8, 8, 8, 8, 8],
+    [4, 5, 6, 7, 5, 6, 7, 8],
+);
 
 #[test]
 fn a_set_that_wins_too_few_waits(rt: HostRuntime) -> Result<(), Fail> {
     // Set 1 wins one of four elements in round 0.
-    let rows = two_large_sets(rt.alloc())?;
+    let (offsets, targets) = TWO_LARGE_SETS;
     let round = [0, 1, NONE, NONE, NONE, NONE, NONE, NONE, NONE];
     let by = [NONE, NONE, NONE, NONE, 0, 0, 0, 0, 1];
-    covers_as(&rt, rt.alloc(), &rows, round.as_slice(), by.as_slice())
+    covers_as(
+        &rt,
+        rt.alloc(),
+        offsets.as_slice(),
+        targets.as_slice(),
+        round.as_slice(),
+        by.as_slice(),
+    )
 }
 
-/// Set s of s, s + 1, s + 2 and s + 3, for each s up to 60, and three empty sets.
-fn rows_of_a_chain(alloc: Global) -> Result<Rows, Fail> {
+/// Offsets and targets of set s of s, s + 1, s + 2 and s + 3, for each s up to 60, and of three empty sets.
+fn lists_of_a_chain(alloc: Global) -> Result<(Vec<u32>, Vec<u32>), AllocError> {
     let mut offsets = Vec::new(alloc);
     let mut targets = Vec::new(alloc);
     for s in 0..64u32 {
@@ -84,33 +96,39 @@ fn rows_of_a_chain(alloc: Global) -> Result<Rows, Fail> {
             targets.extend_from_slice(&[s, s + 1, s + 2, s + 3])?;
         }
     }
-    rows_of(alloc, offsets.as_slice(), targets.as_slice())
+    Ok((offsets, targets))
 }
 
 #[test]
 fn a_bucket_that_is_drawn_again_and_again(rt: HostRuntime) -> Result<(), Fail> {
     // A round chooses the first set that is whole: each other wins one element of four.
-    let rows = rows_of_a_chain(rt.alloc())?;
+    let (offsets, targets) = lists_of_a_chain(rt.alloc())?;
     let mut round = Vec::new(rt.alloc());
     let mut by = Vec::new(rt.alloc());
     for s in 0..64u64 {
         round.push(if s % 4 == 0 { s / 4 } else { NONE })?;
         by.push(s - s % 4)?;
     }
-    covers_as(&rt, rt.alloc(), &rows, round.as_slice(), by.as_slice())
+    covers_as(
+        &rt,
+        rt.alloc(),
+        offsets.as_slice(),
+        targets.as_slice(),
+        round.as_slice(),
+        by.as_slice(),
+    )
 }
 
 #[test]
 fn without_elements_no_set_is_chosen(rt: HostRuntime) -> Result<(), Fail> {
-    let rows = rows_of(rt.alloc(), &[0, 0], &[])?;
     let none = [NONE, NONE];
-    covers_as(&rt, rt.alloc(), &rows, none.as_slice(), none.as_slice())
+    let (round, by) = (none.as_slice(), none.as_slice());
+    covers_as(&rt, rt.alloc(), &[0, 0], &[], round, by)
 }
 
 #[test]
 fn a_vertex_may_cover_itself(rt: HostRuntime) -> Result<(), Fail> {
-    let rows = rows_of(rt.alloc(), &[0], &[0])?;
-    covers_as(&rt, rt.alloc(), &rows, [0].as_slice(), [0].as_slice())
+    covers_as(&rt, rt.alloc(), &[0], &[0], &[0], &[0])
 }
 
 /// A table with a word for each vertex, all of them `NONE`.
@@ -135,7 +153,8 @@ fn buckets_for(alloc: Global, sets: &SetRows) -> Result<Buckets, AllocError>
 
 #[test]
 fn each_round_is_drawn_and_its_chunks_pass_the_gate(rt: HostRuntime) -> Result<(), Fail> {
-    let sets = two_large_sets(rt.alloc())?.elements()?;
+    let (offsets, targets) = TWO_LARGE_SETS;
+    let sets = rows_of(rt.alloc(), offsets.as_slice(), targets.as_slice())?.elements()?;
     let gate = CountGate::new();
     let team = Team {
         workers: 2,

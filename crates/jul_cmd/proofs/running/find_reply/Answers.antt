@@ -22,13 +22,13 @@ returns-in-Solve-clause-refused g c =
     solve_refused (input_of c.args.query.input) (work_of c.args.query.work) (problem_of c.in-Solve.problem) (form_of c.in-Solve.form) _ _ c.in_ok-loaded.loaded.rows status (ap work_of c.in-Solve.is)
     c.in_ok-loaded.ensures.rows unsolved) c.solve.ensures.refused
 
-pub returns-clause-found : goal.returns-clause-found
-returns-clause-found g c =
+pub returns-in-Judge-clause-found : goal.returns-in-Judge-clause-found
+returns-in-Judge-clause-found g c =
     checked_done (input_of c.args.query.input) (work_of c.args.query.work) _ _ _ c.in_ok-loaded.loaded.rows (purpose_of c.in-Judge.purpose) c.in-Judge.witness.now (named_sources c.in-Judge.sources) c.judge.result (ap work_of c.in-Judge.is)
     c.in_ok-loaded.ensures.rows c.judge.ensures.given c.judge.ensures.found
 
-pub returns-clause-refused : goal.returns-clause-refused
-returns-clause-refused g c =
+pub returns-in-Judge-clause-refused : goal.returns-in-Judge-clause-refused
+returns-in-Judge-clause-refused g c =
     IfErr-weaker c.judge.result _ _ (λ status unchecked.
     check_refused (input_of c.args.query.input) (work_of c.args.query.work) _ _ _ c.in_ok-loaded.loaded.rows (purpose_of c.in-Judge.purpose) c.in-Judge.witness.now (named_sources c.in-Judge.sources) status (ap work_of c.in-Judge.is)
     c.load_input.ensures.faults c.in_ok-loaded.ensures.rows unchecked) c.judge.ensures.refused
